@@ -1,0 +1,6 @@
+pub mod Decoding
+pub mod Device
+pub mod Geometry
+pub mod Identity
+pub mod Names
+pub mod Outside

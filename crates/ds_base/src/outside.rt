@@ -1,0 +1,57 @@
+//! The outside world: where bytes come from and where they go.
+ghost use Rattle.std.specs.Prelude.{◌≡◌, ◌<◌, ◌≤◌, ℕ, List, Option, length};
+ghost use Rattle.ds_base.specs.Outside.{HasRisen, Gives, Accepts};
+
+use thiserror::Error;
+
+/// No memory was found.
+#[derive(Clone, Copy, Debug, PartialEq, Eq, Error)]
+#[error("out of memory")]
+pub struct NoMemory;
+
+/// What a call of a source gave: this many bytes, the end, or a fault.
+#[derive(Clone, Copy, Debug, PartialEq, Eq)]
+pub enum Taken {
+    Got(usize),
+    End,
+    Failed,
+}
+
+/// What a call of a sink took: this many bytes, or a fault.
+#[derive(Clone, Copy, Debug, PartialEq, Eq)]
+pub enum Gave {
+    Took(usize),
+    Failed,
+}
+
+/// Where bytes come from.
+pub trait Source {
+    /// The bytes still to come, where that is told.
+    ghost left: { Self → Option (List ℕ) };
+
+    /// How often a call failed; a count at 2^64 - 1 stays there.
+    ghost faults: { Self → ℕ };
+
+    /// Puts the next bytes at the front of `buf`.
+    fn next(&mut self, buf: &mut [u8]) -> Taken
+        requires { 0 < length buf.old }
+        ensures gives { Gives (left self.old) (left self.new) result buf.new }
+        ensures faults { faults self.old ≤ faults self.new }
+        ensures failed { result ≡ Taken.Failed → HasRisen (faults self.old) (faults self.new) };
+}
+
+/// Where bytes go.
+pub trait Sink {
+    /// The bytes taken so far, where that is told.
+    ghost taken: { Self → Option (List ℕ) };
+
+    /// How often a call failed; a count at 2^64 - 1 stays there.
+    ghost faults: { Self → ℕ };
+
+    /// Takes bytes from the front of `piece`.
+    fn put(&mut self, piece: &[u8]) -> Gave
+        requires { 0 < length piece.now }
+        ensures accepts { Accepts (taken self.old) (taken self.new) result piece.now }
+        ensures faults { faults self.old ≤ faults self.new }
+        ensures failed { result ≡ Gave.Failed → HasRisen (faults self.old) (faults self.new) };
+}
