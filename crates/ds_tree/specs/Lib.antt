@@ -1,0 +1,4 @@
+pub mod Variables
+pub mod Nodes
+pub mod Counts
+pub mod Steps

@@ -1,0 +1,12 @@
+//! The file tree, the calls on it, and the scenarios that hosts carry out.
+#![tactic(auto)]
+
+mod calls;
+mod scenarios;
+mod trees;
+mod variables;
+
+pub use calls::{Call, CallOf, HostCall, HostCallOf, TreeReply};
+pub use scenarios::{Directive, HostPlan, Items, Point, Scenario};
+pub use trees::Tree;
+pub use variables::{Spoken, Var};
