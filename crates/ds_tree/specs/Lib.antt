@@ -2,3 +2,4 @@ pub mod Variables
 pub mod Nodes
 pub mod Counts
 pub mod Steps
+pub mod Trees

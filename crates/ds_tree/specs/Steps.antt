@@ -1,8 +1,8 @@
 -- What each call on a file tree does: the first refusal whose condition holds, which changes nothing; else the reply and
 -- exactly the named change, with any free choice of object numbers, births and blocks.
-use Rattle.std.specs.Prelude.{◌≡◌, ◌≢◌, ℕ, ◌+◌, ◌-◌, ◌*◌, ◌<◌, ◌==◌, ◌&&◌, Bool, true, false, not, nat_le, nat_lt, if◌then◌else◌, List, [], ◌∷◌, ◌++◌, length, take, drop, map, filter, slice_get, All, Contains, Option, Some, None, is_none, MatchOption}
+use Rattle.std.specs.Prelude.{◌≡◌, ◌≢◌, ℕ, ◌+◌, ◌-◌, ◌*◌, ◌<◌, ◌==◌, ◌&&◌, Bool, true, false, not, nat_eq, nat_le, nat_lt, if◌then◌else◌, List, [], ◌∷◌, ◌++◌, length, take, drop, map, filter, slice_get, All, Contains, Option, Some, None, is_none, MatchOption}
 use Rattle.std.specs.Ordering.{nat_cmp, is_lt}
-use Rattle.std.specs.Slice.{slice_cmp}
+use Rattle.std.specs.Cmp.Lexicographic.{slice_cmp}
 use Rattle.std.specs.List.{IsDistinct}
 use Rattle.std.specs.FinMap as maps
 use Rattle.ds_base.specs.declared.geometry.Geom.{Geom}
@@ -173,7 +173,7 @@ pub record Resizes (g : Geom) (t : FileTree) (file : Key) (size : ℕ) (u : File
   pub grows : length added ≡ size - length blocks
   pub in_range : All (λ b. b < items_of g Fb) added
   pub free : All (λ b. ¬ Contains (all_blocks t) b) added
-  pub distinct : IsDistinct added
+  pub distinct : IsDistinct nat_eq added
   pub resized : u ≡ with_node t file.object (File (take size blocks ++ added))
 
 -- the entry of this name goes, and its object with it; the room stays
