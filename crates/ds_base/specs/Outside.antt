@@ -1,5 +1,5 @@
 -- What a source gives and a sink takes.
-use Rattle.std.specs.Prelude.{◌≡◌, ℕ, ◌+◌, ◌-◌, ◌^◌, ◌≤◌, ◌<◌, min, List, [], ◌++◌, length, take, Option, Some, None, MatchOption, IfSome}
+use Rattle.std.specs.Prelude.{◌≡◌, ℕ, ◌+◌, ◌-◌, ◌^◌, ◌≤◌, min, List, [], ◌++◌, length, take, Option, Some, None, MatchOption, IfSome}
 use Rattle.ds_base.specs.declared.outside.Taken.{Taken}
 use Rattle.ds_base.specs.declared.outside.Taken.TheVariants as takes
 use Rattle.ds_base.specs.declared.outside.Gave.{Gave}

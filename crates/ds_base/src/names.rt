@@ -16,14 +16,14 @@ pub enum NodeKind {
 }
 
 /// One life of an object. The root is object 0 with birth 1; births begin at 1 and are at most 2^62.
-#[derive(Clone, Copy, Debug, PartialEq, Eq)]
+#[derive(Clone, Copy, Debug, PartialEq, Eq, PartialOrd, Ord)]
 pub struct Key {
     pub object: ObjNo,
     pub birth: u64,
 }
 
 /// A list of at most 255 bytes.
-#[derive(Clone, Debug, Drop, PartialEq, Eq)]
+#[derive(Clone, Debug, Drop, PartialEq, Eq, PartialOrd, Ord)]
 pub struct Word {
     bytes: ArrayVec<u8, 255>,
 }
@@ -57,7 +57,7 @@ impl Word {
 }
 
 /// A name of the file tree: 1 to 100 letters and digits of ASCII, dots, low lines and hyphens, and neither `.` nor `..`.
-#[derive(Clone, Debug, Drop, PartialEq, Eq)]
+#[derive(Clone, Debug, Drop, PartialEq, Eq, PartialOrd, Ord)]
 pub struct Name {
     bytes: ArrayVec<u8, 100>,
 }

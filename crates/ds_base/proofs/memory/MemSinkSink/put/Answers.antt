@@ -1,5 +1,4 @@
-use Rattle.std.proofs.Common.{◌≡◌, ℕ, ◌+◌, ◌≤◌, ◌⊎◌, inl, inr, List, length, take, Contains, vec_len, vec_capacity, ap, subst, sym, refl, ◌∙◌, length-take, arith, rules}
-use Rattle.std.proofs.lemmas.Grind.{common_steps}
+use Rattle.std.proofs.Common.{◌≡◌, ℕ, ◌+◌, ◌≤◌, ◌⊎◌, inl, inr, List, length, take, Contains, vec_len, vec_capacity, ap, subst, sym, refl, ◌∙◌, length-take, arith}
 use Rattle.ds_base.proofs.memory.MemSinkSink.put.Goals as goal
 use Rattle.ds_base.proofs.memory.MemSinkSink.put.Goals.{then-n-eq0-via-then-n-eq0, then-n-eq0-via-else-n-eq0+then-is_listed, then-n-eq0-via-else-n-eq0+else-is_listed+then-is_err}
 
