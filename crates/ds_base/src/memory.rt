@@ -1,6 +1,6 @@
 //! A source and a sink over memory, whose calls fail where they are told to.
 ghost use Rattle.std.specs.Prelude.{◌≡◌, ◌≢◌, ◌↔◌, ◌≤◌, ◌<◌, ◌-◌, ◌⊎◌, ℕ, min, [], Some, IsTrue, IfOk, Contains, length};
-ghost use Rattle.ds_base.specs.Outside.{risen, HasRisen, Gives, Accepts};
+ghost use Rattle.ds_base.specs.Outside.{risen, Gives, Accepts};
 
 use crate::outside::{Gave, NoMemory, Sink, Source, Taken, copy_front};
 use std::alloc::Global;
@@ -59,7 +59,7 @@ impl Source for MemSource {
         requires { 0 < length buf.old }
         ensures gives { Gives (Some self.old.left) (Some self.new.left) result buf.new }
         ensures faults { self.old.faults ≤ self.new.faults }
-        ensures failed { result ≡ Taken.Failed → HasRisen self.old.faults self.new.faults }
+        ensures failed { result ≡ Taken.Failed → self.new.faults ≡ risen self.old.faults }
 
         // A call fails exactly where its number is listed, and else gives as much as fits.
         ensures calls { self.new.calls ≡ risen self.old.calls }
@@ -146,7 +146,7 @@ impl Sink for MemSink {
         requires { 0 < length piece.now }
         ensures accepts { Accepts (Some self.old.taken) (Some self.new.taken) result piece.now }
         ensures faults { self.old.faults ≤ self.new.faults }
-        ensures failed { result ≡ Gave.Failed → HasRisen self.old.faults self.new.faults }
+        ensures failed { result ≡ Gave.Failed → self.new.faults ≡ risen self.old.faults }
 
         // A call fails exactly where its number is listed or nothing fits, and else takes as much as fits.
         ensures calls { self.new.calls ≡ risen self.old.calls }
