@@ -1,5 +1,5 @@
 -- Which geometries there are.
-use Rattle.std.specs.Prelude.{◌≡◌, ℕ, ◌≤◌, ◌<◌, ◌⊎◌, ◌*◌, List, length, slice_index}
+use Rattle.std.specs.Prelude.{◌≡◌, ℕ, ◌≤◌, ◌<◌, ◌⊎◌, ◌*◌, slice_index}
 use Rattle.ds_base.specs.declared.geometry.Geom.{Geom}
 use Rattle.ds_base.specs.declared.geometry.Kind.{Kind}
 use Rattle.ds_base.specs.declared.geometry.Kind.TheVariants.{Fd, Sb, Pb, Fb}
@@ -63,7 +63,16 @@ InRange g field = (1 ≤ value_of g field) × (value_of g field ≤ most_of fiel
 abbrev pub IsGeom : Geom → Type 0
 IsGeom g = (field : GeomField) → InRange g field
 
+abbrev pub OutOfRange : Geom → GeomField → Type 0
+OutOfRange g field = (value_of g field < 1) ⊎ (most_of field < value_of g field)
+
 -- this field is out of its range, and every field before it is in its range
 pub record IsFirstBadField (g : Geom) (field : GeomField) : Type 0 where
-  pub out : (value_of g field < 1) ⊎ (most_of field < value_of g field)
+  pub out : OutOfRange g field
   pub before : (other : GeomField) → rank_of other < rank_of field → InRange g other
+
+-- this field is the first of a kind's two that is out of its range
+abbrev pub IsFirstBadOfKind : Geom → Kind → GeomField → Type 0
+IsFirstBadOfKind g kind field =
+    ((field ≡ Clusters kind) × OutOfRange g (Clusters kind))
+    ⊎ ((field ≡ Items kind) × InRange g (Clusters kind) × OutOfRange g (Items kind))

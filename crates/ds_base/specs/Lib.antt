@@ -2,5 +2,6 @@ pub mod Decoding
 pub mod Device
 pub mod Geometry
 pub mod Identity
+pub mod Memory
 pub mod Names
 pub mod Outside

@@ -1,13 +1,17 @@
 -- What a source gives and a sink takes.
-use Rattle.std.specs.Prelude.{◌≡◌, ℕ, ◌+◌, ◌-◌, ◌^◌, ◌≤◌, ◌<◌, min, List, [], ◌++◌, length, take, Option, Some, None, MatchOption, IfSome}
+use Rattle.std.specs.Prelude.{◌≡◌, ℕ, ◌+◌, ◌-◌, ◌^◌, ◌≤◌, min, List, [], ◌++◌, length, take, Option, Some, None, MatchOption, IfSome}
 use Rattle.ds_base.specs.declared.outside.Taken.{Taken}
 use Rattle.ds_base.specs.declared.outside.Taken.TheVariants as takes
 use Rattle.ds_base.specs.declared.outside.Gave.{Gave}
 use Rattle.ds_base.specs.declared.outside.Gave.TheVariants as gives
 
+-- a count of 64 bits after one more; at its last value it stays
+abbrev pub risen : ℕ → ℕ
+risen count = min (count + 1) (2 ^ 64 - 1)
+
 -- a count rose; one that stands at its type's last value counts as risen
 abbrev pub HasRisen : ℕ → ℕ → Type 0
-HasRisen old new = min (old + 1) (2 ^ 64 - 1) ≤ new
+HasRisen old new = risen old ≤ new
 
 -- these bytes came off the front of what was left, where that is told
 abbrev pub Continues : Option (List ℕ) → Option (List ℕ) → List ℕ → Type 0

@@ -1,6 +1,6 @@
 //! The shape of a volume.
-ghost use Rattle.std.specs.Prelude.{◌≡◌, MatchResult, IsOk, ◌↔◌};
-ghost use Rattle.ds_base.specs.Geometry.{IsGeom, IsFirstBadField};
+ghost use Rattle.std.specs.Prelude.{◌≡◌, ◌≤◌, ◌<◌, ◌⊎◌, MatchResult, OnOk, IfErr};
+ghost use Rattle.ds_base.specs.Geometry.{IsGeom, IsFirstBadField, InRange, IsFirstBadOfKind};
 
 use thiserror::Error;
 
@@ -46,12 +46,36 @@ impl Geom {
     pub fn check(&self) -> Result<(), BadGeom>
         ensures { MatchResult result (λ _. IsGeom self.now) (λ bad. IsFirstBadField self.now bad.field) }
     {
-        if self.slots < 1 || self.slots > 16 {
-            return Err(BadGeom { field: GeomField::Slots });
-        }
-        if self.block < 1 || self.block > 2048 {
-            return Err(BadGeom { field: GeomField::Block });
-        }
-        Ok(())
+        in_range(GeomField::Slots, u16::from(self.slots), 16)?;
+        in_range(GeomField::Block, self.block, 2048)?;
+        self.check_kind(Kind::Fd)?;
+        self.check_kind(Kind::Sb)?;
+        self.check_kind(Kind::Pb)?;
+        self.check_kind(Kind::Fb)
     }
+
+    fn check_kind(&self, kind: Kind) -> Result<(), BadGeom>
+        ensures good { OnOk result
+            (InRange self.now (GeomField.Clusters kind) × InRange self.now (GeomField.Items kind)) }
+        ensures bad { IfErr result (λ bad. IsFirstBadOfKind self.now kind bad.field) }
+    {
+        let (clusters, items, most) = match kind {
+            Kind::Fd => (self.clusters[0], self.items[0], 256),
+            Kind::Sb => (self.clusters[1], self.items[1], 3840),
+            Kind::Pb => (self.clusters[2], self.items[2], 3840),
+            Kind::Fb => (self.clusters[3], self.items[3], 3840),
+        };
+        in_range(GeomField::Clusters(kind), u16::from(clusters), 8)?;
+        in_range(GeomField::Items(kind), items, most)
+    }
+}
+
+fn in_range(field: GeomField, value: u16, most: u16) -> Result<(), BadGeom>
+    ensures good { OnOk result ((1 ≤ value) × (value ≤ most)) }
+    ensures bad { IfErr result (λ bad. (bad.field ≡ field) × ((value < 1) ⊎ (most < value))) }
+{
+    if value < 1 || value > most {
+        return Err(BadGeom { field });
+    }
+    Ok(())
 }

@@ -18,5 +18,5 @@ pub use memory::{MemSink, MemSource};
 pub use names::{Key, Name, NodeKind, Word};
 pub use outside::{Gave, NoMemory, Sink, Source, Taken};
 pub use sectors::{Gen, HostNo, ObjNo, Sector, SectorNo, SlotNo, Tick};
-
+pub use standard::{StdSink, StdSource};
 pub use sure::{SureSink, SureSource};

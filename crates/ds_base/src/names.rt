@@ -1,5 +1,6 @@
 //! Words, names, and the keys of objects.
-ghost use Rattle.std.specs.Prelude.{◌≡◌, ◌≤◌, ◌↔◌, length, IsSome, IfSome, IsTrue};
+ghost use Rattle.std.specs.Prelude.{◌≡◌, ◌≤◌, ◌↔◌, ◌⊎◌, [], ◌∷◌, length, IsSome, IfSome, IsTrue};
+ghost use Rattle.std.specs.List.{list_all};
 ghost use Rattle.ds_base.specs.Decoding.{IsDecoded};
 ghost use Rattle.ds_base.specs.Names.{IsName, is_name_byte};
 
@@ -15,14 +16,14 @@ pub enum NodeKind {
 }
 
 /// One life of an object. The root is object 0 with birth 1; births begin at 1 and are at most 2^62.
-#[derive(Clone, Copy, Debug, PartialEq, Eq)]
+#[derive(Clone, Copy, Debug, PartialEq, Eq, PartialOrd, Ord)]
 pub struct Key {
     pub object: ObjNo,
     pub birth: u64,
 }
 
 /// A list of at most 255 bytes.
-#[derive(Clone, Debug, Drop, PartialEq, Eq)]
+#[derive(Clone, Debug, Drop, PartialEq, Eq, PartialOrd, Ord)]
 pub struct Word {
     bytes: ArrayVec<u8, 255>,
 }
@@ -56,7 +57,7 @@ impl Word {
 }
 
 /// A name of the file tree: 1 to 100 letters and digits of ASCII, dots, low lines and hyphens, and neither `.` nor `..`.
-#[derive(Clone, Debug, Drop, PartialEq, Eq)]
+#[derive(Clone, Debug, Drop, PartialEq, Eq, PartialOrd, Ord)]
 pub struct Name {
     bytes: ArrayVec<u8, 100>,
 }
@@ -114,8 +115,17 @@ fn is_name(bytes: &[u8]) -> bool
     if bytes.is_empty() || bytes.len() > 100 {
         return false;
     }
-    if !bytes.iter().all(|b| is_name_byte(*b)) {
-        return false;
-    }
-    bytes != b".".as_slice() && bytes != b"..".as_slice()
+    are_name_bytes(bytes) && !is_dot_or_dots(bytes)
+}
+
+fn are_name_bytes(bytes: &[u8]) -> bool
+    ensures { result ≡ list_all is_name_byte bytes.now }
+{
+    bytes.iter().all(|b| is_name_byte(*b))
+}
+
+fn is_dot_or_dots(bytes: &[u8]) -> bool
+    ensures { IsTrue result ↔ ((bytes.now ≡ 46 ∷ []) ⊎ (bytes.now ≡ 46 ∷ 46 ∷ [])) }
+{
+    matches!(bytes, [b'.'] | [b'.', b'.'])
 }

@@ -1,5 +1,5 @@
 //! The outside world: where bytes come from and where they go.
-ghost use Rattle.std.specs.Prelude.{◌≡◌, ◌<◌, ◌≤◌, ℕ, List, Option, length};
+ghost use Rattle.std.specs.Prelude.{◌≡◌, ◌<◌, ◌≤◌, ℕ, min, List, Option, length, take};
 ghost use Rattle.ds_base.specs.Outside.{HasRisen, Gives, Accepts};
 
 use thiserror::Error;
@@ -54,4 +54,14 @@ pub trait Sink {
         ensures accepts { Accepts (taken self.old) (taken self.new) result piece.now }
         ensures faults { faults self.old ≤ faults self.new }
         ensures failed { result ≡ Gave.Failed → HasRisen (faults self.old) (faults self.new) };
+}
+
+/// Copies as much as fits to the front of `buf`, and says how much.
+pub(crate) fn copy_front(from: &[u8], buf: &mut [u8]) -> usize
+    ensures count { result ≡ min (length from.now) (length buf.old) }
+    ensures copied { take result buf.new ≡ take result from.now }
+{
+    let n = from.len().min(buf.len());
+    buf[..n].copy_from_slice(&from[..n]);
+    n
 }

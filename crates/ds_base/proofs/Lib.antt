@@ -1,0 +1,4 @@
+mod NameTests
+mod Reading
+pub mod DeviceLaws
+pub mod NameLaws
