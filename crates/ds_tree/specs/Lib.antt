@@ -3,3 +3,4 @@ pub mod Nodes
 pub mod Counts
 pub mod Steps
 pub mod Trees
+pub mod FirstForm

@@ -1,9 +1,10 @@
 //! The variables of a scenario, which stand for keys.
-ghost use Rattle.std.specs.Prelude.{◌≡◌, ◌↔◌, IsTrue};
+ghost use Rattle.std.specs.Prelude.{◌≡◌, ◌↔◌, IfOk, IsTrue};
 ghost use Rattle.ds_base.specs.Decoding.{IsDecoded};
 ghost use Rattle.ds_tree.specs.Variables.{IsVariable, is_lower_or_digit};
 
 use arrayvec::ArrayVec;
+use ds_base::NoMemory;
 use std::marker::Model;
 
 /// A variable: 1 to 16 lower-case letters and digits of ASCII that begin with a letter and aren't `root`.
@@ -72,4 +73,13 @@ fn is_lower_or_digit(b: u8) -> bool
 pub enum Spoken {
     Root,
     Var(Var),
+}
+
+impl Spoken {
+    /// A copy.
+    pub fn copy(&self) -> Result<Spoken, NoMemory>
+        ensures { IfOk result (λ spoken. spoken ≡ self.now) }
+    {
+        self.clone().map_err(|_| NoMemory)
+    }
 }
