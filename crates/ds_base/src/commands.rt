@@ -5,9 +5,18 @@ use crate::sectors::{Sector, SectorNo, Tick};
 /// A command to the device. `Swap` is COMPARE AND WRITE of one logical block.
 #[derive(Clone, Copy, Debug, PartialEq, Eq)]
 pub enum Command {
-    Read { at: SectorNo },
-    Write { at: SectorNo, fresh: Sector },
-    Swap { at: SectorNo, verify: Sector, fresh: Sector },
+    Read {
+        at: SectorNo,
+    },
+    Write {
+        at: SectorNo,
+        fresh: Sector,
+    },
+    Swap {
+        at: SectorNo,
+        verify: Sector,
+        fresh: Sector,
+    },
 }
 
 /// What the device answers. `offset` counts bytes from the sector's first.

@@ -23,10 +23,10 @@ impl Model for MemSource {
     ghost Value = { SourceState };
 
     ghost view = { λ s. record {
-        left = drop s.at s.bytes.items;
-        failing = s.failing.items;
-        calls = s.calls;
-        faults = s.faults
+      left = drop s.at s.bytes.items;
+      failing = s.failing.items;
+      calls = s.calls;
+      faults = s.faults;
     } };
 
     ghost invariant = { λ s. s.at ≤ length s.bytes.items };
@@ -100,11 +100,11 @@ impl Model for MemSink {
     ghost Value = { SinkState };
 
     ghost view = { λ s. record {
-        taken = s.bytes.items;
-        room = s.room;
-        failing = s.failing.items;
-        calls = s.calls;
-        faults = s.faults
+      taken = s.bytes.items;
+      room = s.room;
+      failing = s.failing.items;
+      calls = s.calls;
+      faults = s.faults;
     } };
 
     ghost invariant = { λ s. (length s.bytes.items ≤ s.room) × (s.room ≤ vec_capacity s.bytes) };
@@ -160,7 +160,10 @@ impl Sink for MemSink {
     {
         self.calls = self.calls.saturating_add(1);
         let n = (self.room - self.bytes.len()).min(piece.len());
-        if n == 0 || is_listed(&self.failing, self.calls) || self.bytes.extend_from_slice(&piece[..n]).is_err() {
+        if n == 0
+            || is_listed(&self.failing, self.calls)
+            || self.bytes.extend_from_slice(&piece[..n]).is_err()
+        {
             self.faults = self.faults.saturating_add(1);
             return Gave::Failed;
         }

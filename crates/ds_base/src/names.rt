@@ -106,7 +106,12 @@ impl Name {
 fn is_name_byte(b: u8) -> bool
     ensures { result ≡ is_name_byte b }
 {
-    b.is_ascii_lowercase() || b.is_ascii_uppercase() || b.is_ascii_digit() || b == b'.' || b == b'_' || b == b'-'
+    b.is_ascii_lowercase()
+        || b.is_ascii_uppercase()
+        || b.is_ascii_digit()
+        || b == b'.'
+        || b == b'_'
+        || b == b'-'
 }
 
 fn is_name(bytes: &[u8]) -> bool
