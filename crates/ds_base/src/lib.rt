@@ -10,6 +10,8 @@ mod outside;
 mod sectors;
 mod standard;
 mod sure;
+#[cfg(test)]
+mod tests;
 
 pub use commands::{Command, Next, Response};
 pub use geometry::{BadGeom, Geom, GeomField, Kind};
