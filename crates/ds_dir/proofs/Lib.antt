@@ -1,0 +1,2 @@
+pub mod FourRooms
+pub mod Rooms
