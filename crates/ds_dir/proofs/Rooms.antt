@@ -5,7 +5,7 @@ use Rattle.ds_base.specs.declared.names.NodeKind.{NodeKind}
 use Rattle.ds_base.specs.declared.names.NodeKind.TheVariants.{File, Dir}
 use Rattle.ds_bytes.specs.Fields.{little, zeros, front, Field, Num, Raw, spelled, FieldsFit}
 use Rattle.ds_bytes.proofs.Fronts.{front_all}
-use Rattle.ds_bytes.proofs.Little.{length-zeros}
+use Rattle.ds_bytes.proofs.Little.{length-zeros, append_parts}
 use Rattle.ds_bytes.proofs.SameFields.{same_fields, length-spelled, spelled_after-joined, spelled-joined}
 use Rattle.ds_dir.specs.SubBlock.{IsEntry, IsRoom, kind_code, entry_fields, room_bytes}
 use Rattle.ds_dir.specs.RoomParts.{part_fields}
@@ -135,3 +135,36 @@ some_same o x y p q = cc
 
 pub same_entry : (e : Entry) (name : List ℕ) (object birth : ℕ) (kind : NodeKind) → name ≡ e.name → object ≡ e.key.object → birth ≡ e.key.birth → kind ≡ e.kind → (let made : Entry = record { name = name; key = record { object = object; birth = birth }; kind = kind } in made) ≡ e
 same_entry e name object birth kind p q r s = rw (p, q, r, s) refl
+
+kind_same : (k l : NodeKind) → kind_code k ≡ kind_code l → k ≡ l
+kind_same File File e = refl
+kind_same File Dir e = absurd (omega arith)
+kind_same Dir File e = absurd (omega arith)
+kind_same Dir Dir e = refl
+
+name_same : (x y : List ℕ) (k l : ℕ) → length x ≡ length y → x ++ zeros k ≡ y ++ zeros l → x ≡ y
+name_same x y k l len e = (append_parts x (zeros k) y (zeros l) len e).0
+
+entry_same : (e f : Entry) → entry_fields e ≡ entry_fields f → e ≡ f
+entry_same e f same =
+    let code : kind_code e.kind ≡ kind_code f.kind = cc in
+    let len : length e.name ≡ length f.name = cc in
+    let object : e.key.object ≡ f.key.object = cc in
+    let birth : e.key.birth ≡ f.key.birth = cc in
+    let name : e.name ++ zeros (112 - length e.name) ≡ f.name ++ zeros (112 - length f.name) = cc in
+    same_entry f e.name e.key.object e.key.birth e.kind (name_same e.name f.name (112 - length e.name) (112 - length f.name) len name) object birth (kind_same e.kind f.kind code)
+
+free_or_used : (e : Entry) → IsEntry e → zeros 128 ≡ spelled (entry_fields e) → ⊥
+free_or_used e h b =
+    let same : free_fields ≡ entry_fields e = same_fields free_fields (entry_fields e) refl free_fields_fit (entry_fields_fit e h) (sym spelled-free_fields ∙ b) in
+    let code : 0 ≡ kind_code e.kind = cc in
+    omega (arith, kind_used e.kind)
+
+-- two rooms that are spelled alike are one
+pub room_same : (r q : Option Entry) → IsRoom r → IsRoom q → room_bytes r ≡ room_bytes q → r ≡ q
+unfolding room_bytes
+room_same None None h k b = refl
+room_same None (Some f) h k b = absurd (free_or_used f k b)
+room_same (Some e) None h k b = absurd (free_or_used e h (sym b))
+room_same (Some e) (Some f) h k b =
+    ap Some (entry_same e f (same_fields (entry_fields e) (entry_fields f) refl (entry_fields_fit e h) (entry_fields_fit f k) b))
