@@ -1,0 +1,4 @@
+pub mod Fronts
+pub mod Little
+pub mod SameFields
+pub mod Written

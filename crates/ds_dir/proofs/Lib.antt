@@ -1,0 +1,3 @@
+pub mod FourRooms
+pub mod Laws
+pub mod Rooms

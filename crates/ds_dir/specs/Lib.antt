@@ -1,0 +1,2 @@
+pub mod RoomParts
+pub mod SubBlock

@@ -1,0 +1,7 @@
+//! Sub-blocks: the sectors that hold the entries of a directory.
+#![tactic(auto)]
+
+mod room;
+mod sub_block;
+
+pub use sub_block::{Entry, SubBlock};
