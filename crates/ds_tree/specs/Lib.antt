@@ -4,3 +4,5 @@ pub mod Counts
 pub mod Steps
 pub mod Trees
 pub mod FirstForm
+pub mod InMemory
+pub mod Codes

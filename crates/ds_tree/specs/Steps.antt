@@ -95,7 +95,7 @@ refuses_rename g t same name fresh entries entries' rooms' =
     (refuse (is_dir (entry_node t entries name) && not same) replies.CrossDir
     (refuse (maps.contains_key entries' fresh) replies.Exists
     (if same then None else
-        refuse (nat_le 384 (maps.len entries')) replies.DirFull (refuses_room g t entries' rooms'))))
+    refuse (nat_le 384 (maps.len entries')) replies.DirFull (refuses_room g t entries' rooms'))))
 
 -- the first refusal whose condition holds
 abbrev pub refusal : Geom → FileTree → CallOf Key → Option TreeReply
@@ -110,7 +110,7 @@ refusal g t (calls.Remove dir name) = in_dir (node_of_key t dir) (refuses_remove
 refusal g t (calls.Rmdir dir name) = in_dir (node_of_key t dir) (refuses_rmdir t name)
 refusal g t (calls.Rename dir name to fresh) =
     in_dir (node_of_key t dir) (λ entries rooms. in_dir (node_of_key t to) (λ entries' rooms'.
-        refuses_rename g t (dir.object == to.object) name fresh entries entries' rooms'))
+    refuses_rename g t (dir.object == to.object) name fresh entries entries' rooms'))
 refusal g t (calls.OpenFile file) = in_file (node_of_key t file) (λ blocks. None)
 refusal g t (calls.At file index) =
     in_file (node_of_key t file) (λ blocks. refuse (nat_le (length blocks) index) replies.NoBlock None)
@@ -192,7 +192,7 @@ renamed t dir to name fresh object entries rooms entries' rooms' =
     if dir.object == to.object
     then with_node t dir.object (Dir (maps.insert (maps.remove entries name) fresh object) rooms)
     else with_node (with_node t dir.object (Dir (maps.remove entries name) rooms))
-        to.object (Dir (maps.insert entries' fresh object) (rooms_with_one_more entries' rooms'))
+    to.object (Dir (maps.insert entries' fresh object) (rooms_with_one_more entries' rooms'))
 
 pub record Renames (t : FileTree) (dir : Key) (name : List ℕ) (to : Key) (fresh : List ℕ) (key : Key) (u : FileTree) : Type 0 where
   pub entries : Entries

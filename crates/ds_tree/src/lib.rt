@@ -2,6 +2,8 @@
 #![tactic(auto)]
 
 mod calls;
+mod listing;
+mod objects;
 mod scenarios;
 mod trees;
 mod variables;

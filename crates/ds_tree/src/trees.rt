@@ -1,7 +1,184 @@
 //! The file tree in memory.
+ghost use Rattle.std.specs.Prelude.{◌≡◌, ◌<◌, ◌≤◌, ◌+◌, ◌-◌, ◌∷◌, IfOk, OnOk, OnErr, Some, None, IsTrue, true, option_map, option_copied, slice_get, unwrap_or, length, replicate};
+ghost use Rattle.std.specs.FinMap as maps;
+ghost use Rattle.ds_base.specs.declared.geometry.Kind.TheVariants as kinds;
+ghost use Rattle.ds_base.specs.Geometry.{IsGeom, items_of};
+ghost use Rattle.ds_tree.specs.Nodes.{Dir, File, object_at, node_at, birth_at, kind_of, blocks_of, with_object, with_node, fresh_tree, unborn};
+ghost use Rattle.ds_tree.specs.Steps.{is_dir, entries_above};
+ghost use Rattle.ds_tree.specs.Trees.{TreeValue, entries_of, rooms_of, is_worn};
 
-/// A file tree.
+use crate::objects::ObjectInMemory;
+use ds_base::{Geom, Key, Kind, Name, NoMemory, NodeKind, ObjNo};
+use std::alloc::Global;
+use std::marker::Model;
+
+/// The last birth that an object may have.
+const MOST_BIRTH: u64 = 1 << 62;
+
+/// A file tree, with the geometry of the volume that it stands on.
 #[derive(Debug, Drop)]
 pub struct Tree {
-    n: u8,
+    alloc: Global,
+    geom: Geom,
+    objects: Vec<ObjectInMemory>,
+}
+
+impl Model for Tree {
+    ghost use Rattle.std.specs.Prelude.{◌≡◌, length};
+    ghost use Rattle.ds_base.specs.declared.geometry.Kind.TheVariants.{Fd};
+    ghost use Rattle.ds_base.specs.Geometry.{items_of};
+    ghost use Rattle.ds_tree.specs.Codes.{value_code};
+    ghost use Rattle.ds_tree.specs.Trees.{TreeValue};
+
+    ghost Value = { TreeValue };
+
+    ghost coded = { value_code };
+
+    ghost view = { λ t. record { geom = t.geom; tree = record { objects = t.objects.items } } };
+
+    ghost invariant = { λ t. length t.objects.items ≡ items_of t.geom Fd };
+}
+
+impl Tree {
+    /// The tree of a new volume.
+    pub fn fresh(alloc: Global, geom: &Geom) -> Result<Tree, NoMemory>
+        requires { IsGeom geom.now }
+        ensures geom { IfOk result (λ t. t.geom ≡ geom.now) }
+        ensures tree { IfOk result (λ t. t.tree ≡ fresh_tree geom.now) }
+    {
+        let count = count_of(geom, Kind::Fd);
+        let mut objects = Vec::with_capacity(alloc, count as usize).map_err(|_| NoMemory)?;
+        objects
+            .push(ObjectInMemory::dir(alloc, 1, 0))
+            .map_err(|_| NoMemory)?;
+        for number in 1..count {
+            objects.push(ObjectInMemory::free(0)).map_err(|_| NoMemory)?;
+        }
+        Ok(Tree {
+            alloc,
+            geom: *geom,
+            objects,
+        })
+    }
+
+    /// The number of objects, used or free: the descriptors of the volume.
+    pub fn object_count(&self) -> u32
+        ensures objects { result ≡ length self.now.tree.objects }
+        ensures descriptors { result ≡ items_of self.now.geom kinds.Fd }
+    {
+        count_of(&self.geom, Kind::Fd)
+    }
+
+    /// Whether some number's last birth is 2^62 or more, so that its next one might be past the last.
+    pub fn worn(&self) -> bool
+        ensures { result ≡ is_worn self.now.tree }
+    {
+        self.objects.iter().any(|it| it.birth() >= MOST_BIRTH)
+    }
+
+    /// What an object is; `None` where its number is free, or none of the volume's.
+    pub fn kind(&self, object: ObjNo) -> Option<NodeKind>
+        ensures { result ≡ option_map kind_of (node_at self.now.tree object) }
+    {
+        match self.object(object) {
+            Some(it) => it.kind(),
+            None => None,
+        }
+    }
+
+    /// The birth of a number's last life; 0 where it had none.
+    pub fn birth(&self, object: ObjNo) -> u64
+        ensures { result ≡ birth_at self.now.tree object }
+    {
+        match self.object(object) {
+            Some(it) => it.birth(),
+            None => 0,
+        }
+    }
+
+    /// The rooms of a directory; none of anything else.
+    pub fn rooms(&self, dir: ObjNo) -> u32
+        ensures { result ≡ rooms_of (node_at self.now.tree dir) }
+    {
+        match self.object(dir) {
+            Some(it) => it.rooms(),
+            None => 0,
+        }
+    }
+
+    /// The blocks of a file, in order; none of anything else.
+    pub fn blocks(&self, file: ObjNo) -> &[u32]
+        ensures { result.now ≡ blocks_of (node_at self.now.tree file) }
+    {
+        match self.object(file) {
+            Some(it) => it.blocks(),
+            None => &[],
+        }
+    }
+
+    /// The entry of a directory with the least name above `after`, or the least of all; none of anything else.
+    #[tactic(auto, using(crate::proofs::EntryLists::none_above))]
+    pub fn next_entry(&self, dir: ObjNo, after: Option<&Name>) -> Option<(&Name, ObjNo)>
+        ensures { option_map (λ e. (e.0.now, e.1)) result
+            ≡ slice_get (entries_above (entries_of (node_at self.now.tree dir)) (option_copied after.entry)) 0 }
+    {
+        match self.object(dir) {
+            Some(it) => it.next_entry(after),
+            None => None,
+        }
+    }
+
+    /// Sets the last birth of a free number.
+    pub fn set_birth(&mut self, object: ObjNo, birth: u64)
+        requires in_range { object < length self.old.tree.objects }
+        requires free { node_at self.old.tree object ≡ None }
+        ensures geom { self.new.geom ≡ self.old.geom }
+        ensures tree { self.new.tree ≡ with_object self.old.tree object (record { birth = birth; node = None }) }
+    {
+        self.objects[object as usize] = ObjectInMemory::free(birth);
+    }
+
+    /// Makes an object an empty directory.
+    pub fn put_dir(&mut self, key: Key, rooms: u32)
+        requires { key.object < length self.old.tree.objects }
+        ensures geom { self.new.geom ≡ self.old.geom }
+        ensures tree { self.new.tree ≡ with_object self.old.tree key.object
+            (record { birth = key.birth; node = Some (Dir maps.empty rooms) }) }
+    {
+        self.objects[key.object as usize] = ObjectInMemory::dir(self.alloc, key.birth, rooms);
+    }
+
+    /// Makes an object a file.
+    pub fn put_file(&mut self, key: Key, blocks: Vec<u32>)
+        requires { key.object < length self.old.tree.objects }
+        ensures geom { self.new.geom ≡ self.old.geom }
+        ensures tree { self.new.tree ≡ with_object self.old.tree key.object
+            (record { birth = key.birth; node = Some (File blocks.items) }) }
+    {
+        self.objects[key.object as usize] = ObjectInMemory::file(key.birth, blocks);
+    }
+
+    /// Puts an entry into a directory.
+    pub fn put_entry(&mut self, dir: ObjNo, name: Name, object: ObjNo) -> Result<(), NoMemory>
+        requires { is_dir (node_at self.old.tree dir) ≡ true }
+        ensures geom { self.new.geom ≡ self.old.geom }
+        ensures ok { OnOk result (self.new.tree ≡ with_node self.old.tree dir
+            (Dir (maps.insert (entries_of (node_at self.old.tree dir)) name object) (rooms_of (node_at self.old.tree dir)))) }
+        ensures err { OnErr result (self.new.tree ≡ self.old.tree) }
+    {
+        let it = &mut self.objects[dir as usize];
+        it.put_entry(name, object)
+    }
+
+    fn object(&self, object: ObjNo) -> Option<&ObjectInMemory>
+        ensures { unwrap_or (option_map (λ it. it.now) result) unborn ≡ object_at self.now.tree object }
+    {
+        self.objects.get(object as usize)
+    }
+}
+
+fn count_of(geom: &Geom, kind: Kind) -> u32
+    ensures { result ≡ items_of geom.now kind }
+{
+    u32::from(geom.clusters[kind as usize]) * u32::from(geom.items[kind as usize])
 }

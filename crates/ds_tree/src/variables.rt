@@ -1,5 +1,6 @@
 //! The variables of a scenario, which stand for keys.
-ghost use Rattle.std.specs.Prelude.{◌≡◌, ◌↔◌, IfOk, IsTrue};
+ghost use Rattle.std.specs.Prelude.{◌≡◌, ◌↔◌, IfOk, IsTrue, codes};
+ghost use Rattle.std.specs.List.{list_all};
 ghost use Rattle.ds_base.specs.Decoding.{IsDecoded};
 ghost use Rattle.ds_tree.specs.Variables.{IsVariable, is_lower_or_digit};
 
@@ -53,13 +54,19 @@ fn is_variable(bytes: &[u8]) -> bool
     if bytes.is_empty() || bytes.len() > 16 {
         return false;
     }
-    if !bytes[0].is_ascii_lowercase() {
-        return false;
-    }
-    if !bytes.iter().all(|b| is_lower_or_digit(*b)) {
-        return false;
-    }
-    bytes != b"root".as_slice()
+    bytes[0].is_ascii_lowercase() && are_lower_or_digit(bytes) && !is_root(bytes)
+}
+
+fn are_lower_or_digit(bytes: &[u8]) -> bool
+    ensures { result ≡ list_all is_lower_or_digit bytes.now }
+{
+    bytes.iter().all(|b| is_lower_or_digit(*b))
+}
+
+fn is_root(bytes: &[u8]) -> bool
+    ensures { IsTrue result ↔ (bytes.now ≡ codes "root") }
+{
+    bytes == b"root".as_slice()
 }
 
 fn is_lower_or_digit(b: u8) -> bool

@@ -1,0 +1,99 @@
+-- A list of entries in the order of their keys, as a map of std gives it, and the finite map that it stands for.
+use Rattle.std.proofs.Common.{◌≡◌, ℕ, Bool, true, false, cond, ◌&&◌, T, List, [], ◌∷◌, map, length, refl, sym, ap, subst, ◌∙◌, arith}
+use Rattle.std.specs.Prelude.{Option, Some, None, slice_get}
+use Rattle.std.specs.declared.cmp.Ordering.{Ordering}
+use Rattle.std.specs.declared.cmp.Ordering.TheVariants.{Less}
+use Rattle.std.specs.Ordering.{nat_cmp, is_lt, is_eq, eq_by_cmp}
+use Rattle.std.specs.Cmp.{eq_by_cmp_equiv}
+use Rattle.std.specs.Cmp.Lexicographic.{slice_cmp, nat_list_cmp_total}
+use Rattle.std.specs.List.{AllByRecursion}
+use Rattle.std.specs.List.Sorted.{IsStrictlySortedBy}
+use Rattle.std.specs.Map.{lookup}
+use Rattle.std.specs.BTreeMap.{is_at}
+use Rattle.std.specs.BTreeMap.Range.{entries_between}
+use Rattle.std.specs.declared.ops.Bound.TheVariants.{Excluded, Unbounded}
+use Rattle.std.specs.List.{filter}
+use Rattle.ds_tree.specs.Steps.{is_above, entries_above}
+use Rattle.std.specs.FinMap as maps
+use Rattle.std.specs.FinMap.Entries.{below_all}
+
+abbrev pub cmp : List ℕ → List ℕ → Ordering
+cmp = slice_cmp nat_cmp
+
+and : (a b : Bool) → T a → T b → T (a && b)
+and true b p q = q
+and false b p q = p
+
+module _ {K X : Type 0} (R : K → K → Ordering) where
+  below_all-of : (x : K) (es : List (K × X)) → AllByRecursion (λ y. R x y ≡ Less) (map (λ e. e.0) es) → T (below_all R x es)
+  below_all-of x [] h = tt
+  below_all-of x (e ∷ es) h = and _ _ (subst (λ r. T (is_lt r)) (sym h.0) tt) (below_all-of x es h.1)
+
+  -- keys that rise for std rise for a finite map
+  pub is_sorted-of : (es : List (K × X)) → IsStrictlySortedBy R (map (λ e. e.0) es) → T (maps.is_sorted R es)
+  unfolding IsStrictlySortedBy
+  is_sorted-of [] h = tt
+  is_sorted-of (e ∷ es) h = and _ _ (below_all-of e.0 es h.0) (is_sorted-of es h.1)
+
+  pub find-lookup : (q : K) (es : List (K × X)) → maps.find R q es ≡ lookup (is_at (R q)) es
+  find-lookup q [] = refl
+  find-lookup q (e ∷ es) = ap (cond (is_eq (R q e.0)) (Some e.1)) (find-lookup q es)
+
+abbrev Map : Type 0
+Map = maps.FinMap cmp ℕ
+
+same : maps.IsAntisymmetric cmp
+same = maps.slice_cmp-IsAntisymmetric maps.nat_cmp-IsAntisymmetric
+
+pub get-of_entries : (es : List (List ℕ × ℕ)) (q : List ℕ) → T (maps.is_sorted cmp es) → maps.get (maps.from_sorted {R = cmp} es) q ≡ lookup (is_at (cmp q)) es
+get-of_entries es q sorted = maps.get-from_sorted cmp es q sorted ∙ find-lookup cmp q es
+
+turned : (k q : List ℕ) → is_at (cmp k) q ≡ eq_by_cmp cmp q k
+turned k q = (eq_by_cmp_equiv nat_list_cmp_total).symm k q
+
+pub insert-of_entries : (es fs : List (List ℕ × ℕ)) (k : List ℕ) (v : ℕ) → T (maps.is_sorted cmp es) → T (maps.is_sorted cmp fs) → ((q : List ℕ) → lookup (is_at (cmp q)) fs ≡ cond (is_at (cmp k) q) (Some v) (lookup (is_at (cmp q)) es)) → maps.from_sorted {R = cmp} fs ≡ maps.insert (maps.from_sorted {R = cmp} es) k v
+insert-of_entries es fs k v sorted sorted' updates = maps.same_map nat_list_cmp_total same _ _ (λ q.
+    get-of_entries fs q sorted' ∙ updates q
+    ∙ ap (λ b. cond b (Some v) (lookup (is_at (cmp q)) es)) (turned k q)
+    ∙ ap (cond (eq_by_cmp cmp q k) (Some v)) (sym (get-of_entries es q sorted))
+    ∙ sym (maps.get-insert nat_list_cmp_total (maps.from_sorted {R = cmp} es) k v q))
+
+pub remove-of_entries : (es fs : List (List ℕ × ℕ)) (k : List ℕ) → T (maps.is_sorted cmp es) → T (maps.is_sorted cmp fs) → ((q : List ℕ) → lookup (is_at (cmp q)) fs ≡ cond (is_at (cmp k) q) None (lookup (is_at (cmp q)) es)) → maps.from_sorted {R = cmp} fs ≡ maps.remove (maps.from_sorted {R = cmp} es) k
+remove-of_entries es fs k sorted sorted' updates = maps.same_map nat_list_cmp_total same _ _ (λ q.
+    get-of_entries fs q sorted' ∙ updates q
+    ∙ ap (λ b. cond b None (lookup (is_at (cmp q)) es)) (turned k q)
+    ∙ ap (cond (eq_by_cmp cmp q k) None) (sym (get-of_entries es q sorted))
+    ∙ sym (maps.get-remove nat_list_cmp_total (maps.from_sorted {R = cmp} es) k q))
+
+pub len-of_entries : (es : List (List ℕ × ℕ)) → T (maps.is_sorted cmp es) → maps.len (maps.from_sorted {R = cmp} es) ≡ length es
+len-of_entries es sorted = maps.len-entries _ ∙ ap length (maps.entries-from_sorted cmp es sorted)
+
+pub empty-of_entries : (es : List (List ℕ × ℕ)) → es ≡ [] → maps.from_sorted {R = cmp} es ≡ maps.empty
+empty-of_entries es none = ap maps.from_sorted none ∙ maps.empty_of_len _ (len-of_entries [] tt)
+
+with_true : (b : Bool) → (b && true) ≡ b
+with_true true = refl
+with_true false = refl
+
+pub filter-same : {A : Type 0} (p q : A → Bool) → ((x : A) → p x ≡ q x) → (xs : List A) → filter p xs ≡ filter q xs
+filter-same p q alike [] = refl
+filter-same p q alike (x ∷ xs) = λ i. cond (alike x i) (x ∷ filter-same p q alike xs i) (filter-same p q alike xs i)
+
+-- the range above a name, in a map of std
+pub above-of_entries : (es : List (List ℕ × ℕ)) (name : List ℕ) → T (maps.is_sorted cmp es) → entries_between cmp (Excluded name) Unbounded es ≡ entries_above (maps.from_sorted es) (Some name)
+above-of_entries es name sorted =
+    filter-same _ _ (λ e. with_true (is_lt (cmp name e.0))) es ∙ ap (filter (λ e. is_lt (cmp name e.0))) (sym (maps.entries-from_sorted cmp es sorted))
+
+pub all-of_entries : (es : List (List ℕ × ℕ)) → T (maps.is_sorted cmp es) → entries_between cmp Unbounded Unbounded es ≡ entries_above (maps.from_sorted es) None
+all-of_entries es sorted =
+    filter-same (λ e. true && true) (λ e. true) (λ e. refl) es ∙ ap (filter (λ e. true)) (sym (maps.entries-from_sorted cmp es sorted))
+
+no_items : {A : Type 0} (xs : List A) → length xs ≡ 0 → xs ≡ []
+no_items [] e = refl
+no_items (x ∷ xs) e = absurd (omega arith)
+
+-- nothing stands in an empty directory
+pub none_above : (after : Option (List ℕ)) → slice_get (entries_above maps.empty after) 0 ≡ None
+none_above after =
+    let none : maps.entries (maps.empty {X = ℕ} {R = cmp}) ≡ [] = no_items _ (sym (maps.len-entries _) ∙ maps.len-empty cmp ℕ) in
+    ap (λ es. slice_get (filter (λ (e : List ℕ × ℕ). is_above after e.0) es) 0) none

@@ -1,0 +1,2 @@
+mod EntryLists
+mod GeometryBounds
