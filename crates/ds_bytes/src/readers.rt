@@ -47,7 +47,7 @@ pub fn u64_at(bytes: &[u8], at: usize) -> u64
 /// The numbers of four bytes each from `at` on, as many as `out` has room for.
 pub fn u32s_at(bytes: &[u8], at: usize, out: &mut [u32])
     requires { at + 4 * length out.old ≤ length bytes.now }
-    ensures items { front (at + 4 * length out.new) bytes.now ≡ front at bytes.now ++ littles 4 out.new }
+    ensures items { front (at + 4 * length out.old) bytes.now ≡ front at bytes.now ++ littles 4 out.new }
     ensures below { AllBelow (2 ^ 32) out.new }
 {
     for i in 0..out.len() {

@@ -15,7 +15,7 @@ loop-i-preserved c = record {
 
 pub returns-clause-items : goal.returns-clause-items
 returns-clause-items c =
-    let all_read : length c.loop-i.out ≡ c.loop-i.i = omega arith in
+    let all_read : length c.args.out.now ≡ c.loop-i.i = omega arith in
     ap (λ n. front (c.args.at + 4 * n) c.args.bytes.now) all_read ∙ c.loop-i.invariant.read
     ∙ ap (λ r. front c.args.at c.args.bytes.now ++ littles 4 r) (take_all c.loop-i.i c.loop-i.out (omega arith))
 

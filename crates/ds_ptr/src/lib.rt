@@ -1,0 +1,6 @@
+//! Pointer blocks: the sectors that hold the block numbers of a large file.
+#![tactic(auto)]
+
+mod ptr_block;
+
+pub use ptr_block::PtrBlock;
