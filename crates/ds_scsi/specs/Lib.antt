@@ -1,0 +1,3 @@
+pub mod CommandBlocks
+pub mod Forms
+pub mod SenseData

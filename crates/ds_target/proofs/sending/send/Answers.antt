@@ -1,0 +1,40 @@
+use Rattle.std.proofs.Common.{◌≡◌, ℕ, ◌<◌, length, List, arith, ap, sym, subst, ◌∙◌, Ok}
+use Rattle.ds_base.specs.declared.commands.Command.{Command}
+use Rattle.ds_base.specs.declared.sectors.Sector.{Sector}
+use Rattle.ds_base.specs.Device.{target_of, Answers, stored}
+use Rattle.ds_scsi.specs.Forms.{form_of}
+use Rattle.ds_target.proofs.Singles.{read_one, write_one, swap_one, swap_one_answers}
+use Rattle.ds_target.proofs.sending.send.Goals as goal
+
+pub returns-in-Done-clause-answer : goal.returns-in-Done-clause-answer
+returns-in-Done-clause-answer c =
+    let within : c.in-Read.at < length c.args.lun.now = rw c.in-Read.is at c.requires in
+    let is = rw c.in-Read.is at c.cdb_of-cdb.ensures.reads in
+    rw c.in-Read.is
+    (read_one c.args.lun.now c.in-Read.at _ _ _ _ c.execute-reply.result within is (omega arith)
+    c.execute-reply.ensures.reply c.execute-reply.ensures.data_in)
+
+pub returns-in-Write-clause-stored : goal.returns-in-Write-clause-stored
+returns-in-Write-clause-stored c =
+    let within : c.in-Write.at < length c.args.lun.now = rw c.in-Write.is at c.requires in
+    let is = rw c.in-Write.is at c.cdb_of-cdb.ensures.reads in
+    rw c.in-Write.is
+    (c.execute.ensures.sectors ∙ write_one c.args.lun.now c.in-Write.at _ c.in-Write.fresh within is (omega arith))
+
+pub returns-in-Swap-clause-stored : goal.returns-in-Swap-clause-stored
+returns-in-Swap-clause-stored c =
+    let within : c.in-Swap.at < length c.args.lun.now = rw c.in-Swap.is at c.requires in
+    let is = rw c.in-Swap.is at c.cdb_of-cdb.ensures.reads in
+    rw c.in-Swap.is
+    (c.execute-in-Swap.ensures.sectors
+    ∙ swap_one c.args.lun.now c.in-Swap.at _ c.put_instances.new.out c.in-Swap.verify c.in-Swap.fresh
+    within is c.put_instances.ensures.front c.put_instances.ensures.back (omega arith))
+
+pub returns-in-Swap-clause-answer : goal.returns-in-Swap-clause-answer
+returns-in-Swap-clause-answer c =
+    let within : c.in-Swap.at < length c.args.lun.now = rw c.in-Swap.is at c.requires in
+    let is = rw c.in-Swap.is at c.cdb_of-cdb.ensures.reads in
+    rw c.in-Swap.is
+    (swap_one_answers c.args.lun.now c.in-Swap.at _ c.put_instances.new.out c.in-Swap.verify c.in-Swap.fresh
+    c.execute-in-Swap.result c.response_to-in-Swap.result within is c.put_instances.ensures.front
+    c.execute-in-Swap.ensures.reply c.response_to-in-Swap.ensures.done c.response_to-in-Swap.ensures.mismatch)

@@ -1,0 +1,62 @@
+//! Runs of logical blocks between the device and a buffer.
+ghost use Rattle.std.specs.Prelude.{◌≡◌, ◌+◌, ◌*◌, ◌^◌, ◌<◌, ◌≤◌, ◌++◌, length, drop, slice_range, true, false, MatchOption, if◌then◌else◌};
+ghost use Rattle.ds_base.specs.Device.{IsFirstDifference};
+ghost use Rattle.ds_target.specs.Blocks.{bytes_from, images_in, overwritten};
+ghost use Rattle.ds_target.specs.Execution.{is_verified, written};
+
+use ds_base::{Sector, SectorNo};
+use ds_lun::MemLun;
+use ds_scsi::Cdb;
+
+/// Puts the bytes of `count` sectors from `at` on at the front of `into`.
+pub fn read_blocks(lun: &MemLun, at: SectorNo, count: u32, into: &mut [u8])
+    requires range { at + count ≤ length lun.now }
+    requires fits { at + count < 2 ^ 32 }
+    requires room { 512 * count ≤ length into.old }
+    ensures { into.new ≡ bytes_from lun.now at count ++ drop (512 * count) into.old }
+{
+    for i in 0..count {
+        let sector = lun.sector(at + i);
+        let start = 512 * i as usize;
+        into[start..start + 512].copy_from_slice(&sector.bytes);
+    }
+}
+
+/// Puts the blocks of `out` into `count` sectors from `at` on.
+pub fn write_blocks(lun: &mut MemLun, at: SectorNo, count: u32, out: &[u8])
+    requires range { at + count ≤ length lun.old }
+    requires fits { at + count < 2 ^ 32 }
+    requires whole { length out.now ≡ 512 * count }
+    ensures { lun.new ≡ overwritten lun.old at (images_in count out.now) }
+{
+    for i in 0..count {
+        let fresh = image_at(out, 512 * i as usize);
+        lun.write(at + i, &fresh);
+    }
+}
+
+/// Puts the second block of `out` into the sector that holds the first. Otherwise nothing changes, and the least offset at
+/// which the two differ is told.
+pub fn compare_and_write(lun: &mut MemLun, at: SectorNo, out: &[u8]) -> Option<u16>
+    requires range { at < length lun.old }
+    requires whole { length out.now ≡ 1024 }
+    ensures sectors { let form = Cdb.Swap at 1 in
+        lun.new ≡ (if is_verified lun.old form out.now then written lun.old form out.now else lun.old) }
+    ensures answer { let verified = is_verified lun.old (Cdb.Swap at 1) out.now in
+        MatchOption result (verified ≡ true) (λ offset. (verified ≡ false) × (offset < 512)
+        × IsFirstDifference (bytes_from lun.old at 1) out.now offset) }
+{
+    let verify = image_at(out, 0);
+    let fresh = image_at(out, 512);
+    lun.compare_and_write(at, &verify, &fresh)
+}
+
+/// The image in the 512 bytes from `start` on.
+pub fn image_at(bytes: &[u8], start: usize) -> Sector
+    requires { start + 512 ≤ length bytes.now }
+    ensures { result.bytes ≡ slice_range bytes.now start (start + 512) }
+{
+    let mut image = [0; 512];
+    image.copy_from_slice(&bytes[start..start + 512]);
+    Sector { bytes: image }
+}
