@@ -1,14 +1,10 @@
 -- Which bytes a name has.
-use Rattle.std.proofs.Common.{◌≡◌, ℕ, ◌<◌, true, List, [], ◌∷◌, All, Contains, arith}
+use Rattle.std.proofs.Common.{◌≡◌, ℕ, true, List, [], ◌∷◌, All, Contains, arith}
 use Rattle.std.specs.List.{list_all}
 use Rattle.std.proofs.lemmas.Bool.{and_parts}
 use Rattle.std.proofs.lemmas.Bool.Decides.{nat_tests}
 use Rattle.std.proofs.lemmas.List.Elements.{All-contains, All-cons, All-nil}
-use Rattle.ds_base.specs.Names.{IsName, is_name_byte}
-
--- a byte of a name is printed, and is no blank
-abbrev pub IsPrinted : ℕ → Type 0
-IsPrinted b = (32 < b) × (b < 127)
+use Rattle.ds_base.specs.Names.{IsName, IsPrinted, is_name_byte}
 
 pub IsPrinted-name_byte : (b : ℕ) → is_name_byte b ≡ true → IsPrinted b
 IsPrinted-name_byte b h = (grind (arith, nat_tests), grind (arith, nat_tests))

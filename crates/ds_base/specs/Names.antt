@@ -1,5 +1,5 @@
 -- Which words are names.
-use Rattle.std.specs.Prelude.{◌≡◌, ◌≢◌, ℕ, ◌≤◌, Bool, true, nat_le, ◌==◌, ◌&&◌, ◌||◌, List, [], ◌∷◌, length}
+use Rattle.std.specs.Prelude.{◌≡◌, ◌≢◌, ℕ, ◌≤◌, ◌<◌, Bool, true, nat_le, ◌==◌, ◌&&◌, ◌||◌, List, [], ◌∷◌, length}
 use Rattle.std.specs.List.{list_all}
 
 -- an ASCII letter or digit, a dot, a low line or a hyphen
@@ -15,3 +15,7 @@ pub record IsName (bytes : List ℕ) : Type 0 where
   pub of_name_bytes : list_all is_name_byte bytes ≡ true
   pub no_dot : bytes ≢ 46 ∷ []
   pub no_dots : bytes ≢ 46 ∷ 46 ∷ []
+
+-- an ASCII byte that prints, and no blank
+abbrev pub IsPrinted : ℕ → Type 0
+IsPrinted b = (32 < b) × (b < 127)
