@@ -1,5 +1,5 @@
 -- Every list of bytes has a reading: what a decoder answers is there, also where no program decodes.
-use Rattle.std.proofs.Common.{◌≡◌, ◌≢◌, ℕ, zero, suc, ◌+◌, ◌*◌, ◌^◌, ◌<◌, ◌≤◌, ◌⊎◌, inl, inr, Bool, true, false, ltb, eqb, ◌&&◌, List, [], ◌∷◌, ◌++◌, length, slice_index, get_or, take, drop, Option, Some, None, All, Decides, refl, sym, ap, subst, ◌∙◌, arith}
+use Rattle.std.proofs.Common.{◌≡◌, ℕ, zero, suc, ◌+◌, ◌*◌, ◌^◌, ◌<◌, ◌≤◌, ◌⊎◌, inl, inr, Bool, true, false, ltb, eqb, List, [], ◌∷◌, ◌++◌, length, slice_index, take, drop, Option, Some, None, All, Decides, refl, sym, ap, subst, ◌∙◌, arith}
 use Rattle.std.proofs.lemmas.Bool.Decides.{Decides-eqb, Decides-ltb}
 use Rattle.std.proofs.lemmas.List.{append-nil, append_assoc, length-take-le, length-drop, length_push, get_or-drop}
 use Rattle.std.proofs.lemmas.List.Elements.{All-nil, All-cons, All-head, All-tail}
@@ -56,26 +56,26 @@ pub decided_below : (limit : ℕ) (xs : List ℕ) → 0 < limit → Decided (All
 decided_below limit [] h = inl (λ i. h)
 decided_below limit (x ∷ xs) h =
     decided_same
-      (λ b i. elim i as (λ k. slice_index (x ∷ xs) k < limit) [ zero ↦ b.0 | suc k ↦ b.1 k ])
-      (λ all. (all 0, λ i. all (suc i)))
-      (decided_both (decided_lt x limit) (decided_below limit xs h))
+    (λ b i. elim i as (λ k. slice_index (x ∷ xs) k < limit) [ zero ↦ b.0 | suc k ↦ b.1 k ])
+    (λ all. (all 0, λ i. all (suc i)))
+    (decided_both (decided_lt x limit) (decided_below limit xs h))
 
 -- a decoder's answer is there where one candidate is the only value that can meet the description
 pub reading_of : {V : Type 0} (candidate : Option V) (Describes : V → Type 0) → ((v : V) → Describes v → candidate ≡ Some v) → ((v : V) → Decided (Describes v)) → (r : Option V) × IsDecoded r Describes
 reading_of None Describes only test = (None, λ v. (λ e. absurd (cc), λ d. only v d))
 reading_of {V} (Some w) Describes only test =
     elim (test w) as (λ _. (r : Option V) × IsDecoded r Describes) [
-      inl d ↦ (Some w, λ v. (λ e. subst Describes (let same : w ≡ v = cc in same) d, λ d'. only v d'))
-    | inr n ↦ (None, λ v. (λ e. absurd (cc), λ d'. absurd (n (subst Describes (let e : Some w ≡ Some v = only v d' in let same : v ≡ w = cc in same) d'))))
+      | inl d ↦ (Some w, λ v. (λ e. subst Describes (let same : w ≡ v = cc in same) d, λ d'. only v d'))
+      | inr n ↦ (None, λ v. (λ e. absurd (cc), λ d'. absurd (n (subst Describes (let e : Some w ≡ Some v = only v d' in let same : v ≡ w = cc in same) d'))))
     ]
 
-AllBelow-take : (limit n : ℕ) (xs : List ℕ) → 0 < limit → AllBelow limit xs → AllBelow limit (take n xs)
+pub AllBelow-take : (limit n : ℕ) (xs : List ℕ) → 0 < limit → AllBelow limit xs → AllBelow limit (take n xs)
 AllBelow-take limit zero xs h all = λ i. h
 AllBelow-take limit (suc n) [] h all = λ i. h
 AllBelow-take limit (suc n) (x ∷ xs) h all =
     λ i. elim i as (λ k. slice_index (x ∷ take n xs) k < limit) [ zero ↦ all 0 | suc k ↦ AllBelow-take limit n xs h (λ j. all (suc j)) k ]
 
-AllBelow-drop : (limit n : ℕ) (xs : List ℕ) → AllBelow limit xs → AllBelow limit (drop n xs)
+pub AllBelow-drop : (limit n : ℕ) (xs : List ℕ) → AllBelow limit xs → AllBelow limit (drop n xs)
 AllBelow-drop limit n xs all = λ i. rw (get_or-drop n xs i 0) (all (n + i))
 
 -- bytes that can be read
@@ -95,7 +95,8 @@ piece_at at n bytes h = record {
   items = take n (drop at bytes);
   size = length-take-le n (drop at bytes) (omega (arith, length-drop at bytes, h.within));
   below = AllBelow-take 256 n (drop at bytes) (omega arith) (AllBelow-drop 256 at bytes h.are_bytes);
-  read = front_read at n bytes (take n (drop at bytes)) refl }
+  read = front_read at n bytes (take n (drop at bytes)) refl;
+}
 
 -- a number of so many bytes
 pub record NumberAt (at n : ℕ) (bytes : List ℕ) : Type 0 where
@@ -111,7 +112,8 @@ number_at at n bytes h =
     record {
       value = number.0;
       below = rw piece.size at number.1;
-      read = piece.read ∙ ap (λ r. front at bytes ++ r) (sym spelled) }
+      read = piece.read ∙ ap (λ r. front at bytes ++ r) (sym spelled);
+    }
 
 -- so many numbers of n bytes each
 pub record NumbersAt (at n k : ℕ) (bytes : List ℕ) : Type 0 where
@@ -140,4 +142,5 @@ numbers_at at n (suc k) bytes some h =
       values = before.values ++ next.value ∷ [];
       count = length_push before.values next.value ∙ (let e : length before.values + 1 ≡ suc k = omega (arith, before.count) in e);
       below = AllBelow-push (256 ^ n) before.values next.value before.below next.below;
-      read = one_more_at at n k next.value bytes before.values before.read next.read }
+      read = one_more_at at n k next.value bytes before.values before.read next.read;
+    }
