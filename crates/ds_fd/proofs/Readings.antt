@@ -33,27 +33,36 @@ parts_of bytes len below =
     let addresses = numbers_at 32 4 96 bytes (omega arith) (can 32 384 (omega arith)) in
     record {
       parts = record {
-        magic = magic.items; kind = kind.value; gap = gap.items; object = object.value; links = links.value;
-        birth = birth.value; count = count.value; hole = hole.items; addresses = addresses.values };
+        magic = magic.items;
+        kind = kind.value;
+        gap = gap.items;
+        object = object.value;
+        links = links.value;
+        birth = birth.value;
+        count = count.value;
+        hole = hole.items;
+        addresses = addresses.values;
+      };
       read = chained bytes _ _ _ _ _ _ _ _ _ magic.read kind.read gap.read object.read links.read birth.read count.read hole.read addresses.read;
-      fits = (magic.size, (kind.below, (gap.size, (object.below, (links.below, (birth.below, (count.below, (hole.size, ((addresses.count, addresses.below), tt))))))))) }
+      fits = (magic.size, (kind.below, (gap.size, (object.below, (links.below, (birth.below, (count.below, (hole.size, ((addresses.count, addresses.below), tt)))))))));
+    }
 
 decided_widths : (b : Body) → Decided (HasWidths b)
 decided_widths b =
     decided_same
-      (λ d. record { object_fits = d.0; links_fit = d.1.0; birth_fits = d.1.1.0; count_fits = d.1.1.1.0; address_count = d.1.1.1.1.0; addresses_fit = d.1.1.1.1.1 })
-      (λ h. (h.object_fits, (h.links_fit, (h.birth_fits, (h.count_fits, (h.address_count, h.addresses_fit))))))
-      (decided_both (decided_lt b.object (2 ^ 32)) (decided_both (decided_lt b.links (2 ^ 32)) (decided_both (decided_lt b.birth (2 ^ 64))
-        (decided_both (decided_lt b.count (2 ^ 32)) (decided_both (decided_eq (length b.addresses) 96) (decided_below (2 ^ 32) b.addresses (omega arith)))))))
+    (λ d. record { object_fits = d.0; links_fit = d.1.0; birth_fits = d.1.1.0; count_fits = d.1.1.1.0; address_count = d.1.1.1.1.0; addresses_fit = d.1.1.1.1.1 })
+    (λ h. (h.object_fits, (h.links_fit, (h.birth_fits, (h.count_fits, (h.address_count, h.addresses_fit))))))
+    (decided_both (decided_lt b.object (2 ^ 32)) (decided_both (decided_lt b.links (2 ^ 32)) (decided_both (decided_lt b.birth (2 ^ 64))
+    (decided_both (decided_lt b.count (2 ^ 32)) (decided_both (decided_eq (length b.addresses) 96) (decided_below (2 ^ 32) b.addresses (omega arith)))))))
 
 decided_ranges : (b : Body) → Decided (InRanges b)
 decided_ranges b =
     let used : ℕ = addresses_used b.kind b.count in
     decided_same
-      (λ d. record { links_are = d.0; count_to = d.1.0; birth_from = d.1.1.0; birth_to = d.1.1.1.0; rest_is_zero = d.1.1.1.1 })
-      (λ h. (h.links_are, (h.count_to, (h.birth_from, (h.birth_to, h.rest_is_zero)))))
-      (decided_both (decided_eq b.links (links_of b.kind)) (decided_both (decided_le b.count (most_count b.kind)) (decided_both (decided_le (least_birth b.kind) b.birth)
-        (decided_both (decided_le b.birth (2 ^ 62)) (decided_bytes (drop used b.addresses) (zeros (96 - used)))))))
+    (λ d. record { links_are = d.0; count_to = d.1.0; birth_from = d.1.1.0; birth_to = d.1.1.1.0; rest_is_zero = d.1.1.1.1 })
+    (λ h. (h.links_are, (h.count_to, (h.birth_from, (h.birth_to, h.rest_is_zero)))))
+    (decided_both (decided_eq b.links (links_of b.kind)) (decided_both (decided_le b.count (most_count b.kind)) (decided_both (decided_le (least_birth b.kind) b.birth)
+    (decided_both (decided_le b.birth (2 ^ 62)) (decided_bytes (drop used b.addresses) (zeros (96 - used)))))))
 
 decided_body : (b : Body) → Decided (IsBody b)
 decided_body b =
@@ -63,6 +72,6 @@ pub body_reading : (object : ℕ) (bytes : List ℕ) → length bytes ≡ 512 �
 body_reading object bytes len below =
     let read = parts_of bytes len below in
     reading_of (body_of read.parts) (λ b. (b.object ≡ object) × IsBody b × (bytes ≡ body_bytes b))
-      (λ b d. names_body bytes read.parts b read.fits d.1.widths read.read d.2)
-      (λ b. decided_same (λ d. (d.0, d.1.0, d.1.1)) (λ d. (d.0, (d.1, d.2)))
-        (decided_both (decided_eq b.object object) (decided_both (decided_body b) (decided_bytes bytes (body_bytes b)))))
+    (λ b d. names_body bytes read.parts b read.fits d.1.widths read.read d.2)
+    (λ b. decided_same (λ d. (d.0, d.1.0, d.1.1)) (λ d. (d.0, (d.1, d.2)))
+    (decided_both (decided_eq b.object object) (decided_both (decided_body b) (decided_bytes bytes (body_bytes b)))))
