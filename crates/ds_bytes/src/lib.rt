@@ -2,6 +2,8 @@
 #![tactic(auto)]
 
 mod readers;
+#[cfg(test)]
+mod tests;
 mod writer;
 
 pub use readers::{

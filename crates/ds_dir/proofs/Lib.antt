@@ -1,3 +1,4 @@
 pub mod FourRooms
 pub mod Laws
+pub mod Readings
 pub mod Rooms

@@ -3,5 +3,7 @@
 
 mod room;
 mod sub_block;
+#[cfg(test)]
+mod tests;
 
 pub use sub_block::{Entry, SubBlock};

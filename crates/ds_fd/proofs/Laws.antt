@@ -26,7 +26,7 @@ unfolding body_bytes
 body_same a b h k e =
     let read = front-padded 416 (spelled (body_fields a)) (length-spelled (body_fields a) (body_fields_fit a h.widths)) in
     let same : body_fields a ≡ body_fields b =
-        read_same 416 (body_fields a) (body_fields b) (body_bytes a) refl refl (body_fields_fit a h.widths) (body_fields_fit b k.widths) read e in
+    read_same 416 (body_fields a) (body_fields b) (body_bytes a) refl refl (body_fields_fit a h.widths) (body_fields_fit b k.widths) read e in
     let code : kind_code a.kind ≡ kind_code b.kind = cc in
     let kind : a.kind ≡ b.kind = kind_same a.kind b.kind code in
     let object : a.object ≡ b.object = cc in

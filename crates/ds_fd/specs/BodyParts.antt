@@ -22,6 +22,12 @@ kind_of_code (suc (suc (suc n))) = None
 abbrev pub body_of : BodyParts → Option Body
 body_of p =
     option_map
-      (λ kind. record {
-        object = p.object; kind = kind; links = p.links; birth = p.birth; count = p.count; addresses = p.addresses })
-      (kind_of_code p.kind)
+    (λ kind. record {
+      object = p.object;
+      kind = kind;
+      links = p.links;
+      birth = p.birth;
+      count = p.count;
+      addresses = p.addresses;
+    })
+    (kind_of_code p.kind)

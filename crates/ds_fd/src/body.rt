@@ -6,7 +6,7 @@ ghost use Rattle.ds_fd.specs.Body.{body_bytes, kind_code, links_of, most_count, 
 
 use crate::parts::BodyParts;
 use ds_base::{NodeKind, ObjNo, Sector};
-use ds_bytes::{is_zero_from, SectorWriter};
+use ds_bytes::{SectorWriter, is_zero_from};
 
 /// What a descriptor holds: its kind (`None` where it is not in use), its links, its birth, and the count and the
 /// addresses of its sub-blocks or blocks.

@@ -3,5 +3,7 @@
 
 mod body;
 mod parts;
+#[cfg(test)]
+mod tests;
 
 pub use body::Body;

@@ -5,7 +5,7 @@ ghost use Rattle.ds_fd.specs.BodyParts.{part_fields, body_of};
 
 use crate::body::Body;
 use ds_base::{NodeKind, Sector};
-use ds_bytes::{bytes_at, u32_at, u32s_at, u64_at, u8_at};
+use ds_bytes::{bytes_at, u8_at, u32_at, u32s_at, u64_at};
 
 /// What a sector holds if it spells a body.
 #[derive(Drop)]

@@ -1,7 +1,9 @@
 -- What layers above rest on of pointer blocks and their sectors.
-use Rattle.std.proofs.Common.{◌≡◌, ℕ, List, ◌++◌, length, refl, sym, ap, ◌∙◌}
-use Rattle.ds_bytes.specs.Fields.{littles, front, FieldsFit, spelled}
+use Rattle.std.proofs.Common.{◌≡◌, ℕ, List, ◌++◌, length, Option, Some, refl, sym, ap, subst, ◌∙◌, arith}
+use Rattle.ds_base.specs.Decoding.{IsDecoded}
+use Rattle.ds_bytes.specs.Fields.{AllBelow, littles, front, FieldsFit, spelled}
 use Rattle.ds_bytes.proofs.Fronts.{front_none, front_all, front-padded, padded_full}
+use Rattle.ds_bytes.proofs.Readings.{numbers_at}
 use Rattle.ds_bytes.proofs.SameFields.{length-spelled, read_same}
 use Rattle.ds_ptr.specs.PtrBlock.{IsPtrBlock, ptr_fields, ptr_bytes}
 use Rattle.ds_ptr.specs.declared.ptr_block.PtrBlock.{PtrBlock}
@@ -27,3 +29,19 @@ ptr_same a b h k e =
     let addresses : a.addresses ≡ b.addresses = cc in
     let made : List ℕ → PtrBlock = λ addresses. record { addresses = addresses } in
     ap made addresses
+
+-- every 512 bytes spell a pointer block
+pub ptr_reading : (bytes : List ℕ) → length bytes ≡ 512 → AllBelow 256 bytes → (p : PtrBlock) × IsPtrBlock p × (bytes ≡ ptr_bytes p)
+ptr_reading bytes len below =
+    let numbers = numbers_at 0 4 128 bytes (omega arith) (record { within = omega arith; are_bytes = below }) in
+    let p : PtrBlock = record { addresses = numbers.values } in
+    (p, record { count = numbers.count; below = numbers.below }, read_whole bytes p len numbers.read)
+
+-- so a decoder's answer is there
+pub ptr_decoded : (bytes : List ℕ) → length bytes ≡ 512 → AllBelow 256 bytes → (r : Option PtrBlock) × IsDecoded r (λ p. IsPtrBlock p × (bytes ≡ ptr_bytes p))
+ptr_decoded bytes len below =
+    let reading = ptr_reading bytes len below in
+    let p : PtrBlock = reading.0 in
+    let is : IsPtrBlock p = reading.1 in
+    let spelled : bytes ≡ ptr_bytes p = reading.2 in
+    (Some p, λ q. (λ e. subst (λ (v : PtrBlock). IsPtrBlock v × (bytes ≡ ptr_bytes v)) (let same : p ≡ q = cc in same) (is, spelled), λ d. ap Some (ptr_same p q is d.0 (sym spelled ∙ d.1))))

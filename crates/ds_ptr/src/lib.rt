@@ -2,5 +2,7 @@
 #![tactic(auto)]
 
 mod ptr_block;
+#[cfg(test)]
+mod tests;
 
 pub use ptr_block::PtrBlock;
