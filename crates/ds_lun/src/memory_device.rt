@@ -83,7 +83,7 @@ impl MemLun {
         }
     }
 
-    /// Does a command, and answers it.
+    /// Does a command, and answers it: never by `Fault`. Takes no memory.
     pub fn do_command(&mut self, command: &Command) -> Response
         requires { target_of command.now < length self.old }
         ensures stored { self.new ≡ stored self.old command.now }
@@ -110,6 +110,7 @@ fn first_difference(held: &Sector, verify: &Sector) -> Option<u16>
         (λ offset. IsFirstDifference held.now.bytes verify.now.bytes offset) }
     ensures within { IfSome result (λ offset. offset < 512) }
 {
+    // A read of the bytes shows that there are 512.
     let _bytes = &held.bytes;
     held.first_difference(verify)
 }

@@ -1,7 +1,7 @@
 -- Command descriptor blocks (CDBs). The operation codes and the places of the fields are those of SBC-3, the sections
 -- "READ (16) command", "WRITE (16) command" and "COMPARE AND WRITE command". What is refused, in which order, and what is
 -- ignored, is this project's profile.
-use Rattle.std.specs.Prelude.{ℕ, ◌*◌, ◌/◌, ◌≤◌, ◌==◌, nat_lt, Bool, not, ◌||◌, List, length, slice_index, slice_range, Result, Ok, Err, if◌then◌else◌}
+use Rattle.std.specs.Prelude.{◌≡◌, ℕ, ◌*◌, ◌/◌, ◌≤◌, ◌==◌, nat_lt, Bool, not, ◌||◌, List, length, slice_index, slice_range, Result, Ok, Err, if◌then◌else◌}
 use Rattle.std.specs.Int.{w32, w64, from_be_bytes}
 use Rattle.ds_scsi.specs.declared.command_blocks.Cdb.{Cdb}
 use Rattle.ds_scsi.specs.declared.command_blocks.Cdb.TheVariants.{Read, Write, Swap}
@@ -72,3 +72,16 @@ abbrev pub in_len_of : Cdb → ℕ
 in_len_of (Read lba count) = 512 * count
 in_len_of (Write lba count) = 0
 in_len_of (Swap lba count) = 0
+
+-- what a block has, whatever it asks for: sixteen bytes or more, this operation code, no protection, this LBA
+pub record IsBlock (bytes : List ℕ) (code lba : ℕ) : Type 0 where
+  pub long : 16 ≤ length bytes
+  pub operation : slice_index bytes 0 ≡ code
+  pub unprotected : protection_at bytes ≡ 0
+  pub address : lba_at bytes ≡ lba
+
+-- the bytes ask for this command, which is within the profile
+abbrev pub Asks : List ℕ → Cdb → Type 0
+Asks bytes (Read lba count) = IsBlock bytes 0x88 lba × (transfer_length_at bytes ≡ count) × (count ≤ 256)
+Asks bytes (Write lba count) = IsBlock bytes 0x8a lba × (transfer_length_at bytes ≡ count) × (count ≤ 256)
+Asks bytes (Swap lba count) = IsBlock bytes 0x89 lba × (number_of_blocks_at bytes ≡ count) × (count ≤ 1)

@@ -1,6 +1,6 @@
 //! Command descriptor blocks (CDBs) of READ (16), WRITE (16) and COMPARE AND WRITE.
-ghost use Rattle.std.specs.Prelude.{◌≡◌, ◌≤◌, length, IfOk};
-ghost use Rattle.ds_scsi.specs.CommandBlocks.{cdb_at, transfer_at, compare_and_write_at, lba_at, transfer_length_at, is_operation, out_len_of, in_len_of, IsWithinProfile};
+ghost use Rattle.std.specs.Prelude.{◌≡◌, ◌≤◌, ◌↔◌, length, Ok, IfOk};
+ghost use Rattle.ds_scsi.specs.CommandBlocks.{cdb_at, transfer_at, compare_and_write_at, lba_at, transfer_length_at, is_operation, out_len_of, in_len_of, Asks, IsWithinProfile};
 ghost use Rattle.ds_scsi.specs.Forms.{cdb_bytes, command_bytes, form_of};
 
 use ds_base::Command;
@@ -59,8 +59,16 @@ fn block_of(code: u8, lba: u32) -> [u8; 16]
 
 /// The command that these bytes ask for. Bytes past the sixteenth are ignored, and so are all bits outside the
 /// operation code, the protection field, the LBA and the number of blocks.
-#[tactic(auto, unfolding(crate::specs::CommandBlocks::cdb_at))]
 pub fn read_cdb(bytes: &[u8]) -> Result<Cdb, CdbFault>
+    ensures exact { result ≡ cdb_at bytes.now }
+    ensures asked { (form : Cdb) → (result ≡ Ok form) ↔ Asks bytes.now form }
+    ensures limits { IfOk result IsWithinProfile }
+{
+    look_at(bytes)
+}
+
+#[tactic(auto, unfolding(crate::specs::CommandBlocks::cdb_at))]
+fn look_at(bytes: &[u8]) -> Result<Cdb, CdbFault>
     ensures exact { result ≡ cdb_at bytes.now }
     ensures limits { IfOk result IsWithinProfile }
 {

@@ -1,12 +1,11 @@
 -- Commands of no block, and of one: what they do to the sectors and how they are answered.
-use Rattle.std.proofs.Common.{◌≡◌, ℕ, ◌<◌, ◌≤◌, ◌+◌, ◌++◌, Bool, true, false, cond, List, [], ◌∷◌, length, take, drop, refl, ap, sym, ◌∙◌, subst, arith, ltb, not, ◌&&◌, ◌*◌, length-drop}
-use Rattle.std.specs.Prelude.{Option, Some, None, Result, Ok, Err, slice_get, slice_set, slice_index, MatchBool, if◌then◌else◌}
+use Rattle.std.proofs.Common.{◌≡◌, ℕ, ◌<◌, ◌+◌, ◌++◌, Bool, true, false, cond, List, [], ◌∷◌, length, take, drop, refl, ap, sym, ◌∙◌, subst, arith, ltb, not, ◌&&◌, ◌*◌, length-drop}
+use Rattle.std.specs.Prelude.{Some, None, Result, Ok, slice_get, slice_set, slice_index, MatchBool, if◌then◌else◌}
 use Rattle.std.proofs.lemmas.Bool.{le-ltb, MatchBool-at_false}
 use Rattle.std.proofs.lemmas.List.{get_or-take, take-take, take_all, drop_all, append-nil}
 use Rattle.std.proofs.lemmas.Option.{slice_get-get_or}
 use Rattle.std.proofs.Math.ListN.{get_or}
 use Rattle.ds_base.specs.declared.sectors.Sector.{Sector}
-use Rattle.ds_base.specs.declared.commands.Command.{Command}
 use Rattle.ds_base.specs.declared.commands.Command.TheVariants.{Swap as SwapOne}
 use Rattle.ds_base.specs.declared.commands.Response.{Response}
 use Rattle.ds_base.specs.declared.commands.Response.TheVariants.{Done, Miscompare as Differs}
@@ -19,7 +18,7 @@ use Rattle.ds_scsi.specs.declared.sense_data.Sense.TheVariants.{Miscompare}
 use Rattle.ds_scsi.specs.SenseData.{sense_bytes}
 use Rattle.ds_target.specs.declared.execution.ScsiReply.{ScsiReply}
 use Rattle.ds_target.specs.Blocks.{bytes_from, images_in, overwritten}
-use Rattle.ds_target.specs.Execution.{count_of, is_out_of_range, is_verified, written, sectors_after, data_in, Replies, TellsMismatch, good}
+use Rattle.ds_target.specs.Execution.{count_of, is_verified, written, sectors_after, data_in, Replies, TellsMismatch, good}
 use Rattle.ds_target.proofs.Runs.{overwritten_none, overwritten_one, bytes_from_one}
 use Rattle.ds_target.proofs.Comparing.{is_verified_one, stored_one}
 

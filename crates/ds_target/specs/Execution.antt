@@ -1,7 +1,7 @@
 -- What a command does to the sectors of a device, and how it is answered: SBC-3, the sections "READ (16) command",
 -- "WRITE (16) command" and "COMPARE AND WRITE command"; the statuses are those of SAM-5, 5.3 "Status". The order in which
 -- the causes of a refusal are looked for, and the sense data of each, is this project's profile.
-use Rattle.std.specs.Prelude.{◌≡◌, ℕ, ◌+◌, ◌*◌, ◌<◌, ◌==◌, nat_lt, Bool, true, false, not, ◌&&◌, List, [], length, take, drop, Option, Some, None, Result, Ok, Err, MatchBool, if◌then◌else◌}
+use Rattle.std.specs.Prelude.{◌≡◌, ℕ, ◌+◌, ◌*◌, ◌<◌, ◌==◌, nat_lt, Bool, true, not, ◌&&◌, List, [], length, take, drop, Some, None, Result, Ok, Err, MatchBool, if◌then◌else◌}
 use Rattle.std.specs.Str.{bytes_eq}
 use Rattle.ds_base.specs.declared.sectors.Sector.{Sector}
 use Rattle.ds_base.specs.Device.{IsFirstDifference}

@@ -22,6 +22,10 @@ fn block(code: u8, byte_1: u8, lba: u64, length: u32) -> [u8; 16] {
     [code, byte_1, a, b, c, d, e, f, g, h, i, j, k, l, 0xff, 0xff]
 }
 
+fn bad_field(byte: u8) -> Result<Cdb, CdbFault> {
+    Err(CdbFault::BadField { byte })
+}
+
 #[test]
 fn a_block_is_looked_at_in_order(rt: HostRuntime) {
     let lba = 0x0102_0304_0506_0708;
@@ -32,26 +36,11 @@ fn a_block_is_looked_at_in_order(rt: HostRuntime) {
         (block(READ, 0, lba, 256), Ok(read)),
         (block(WRITE, 0x1f, lba, 256), Ok(write)),
         (block(COMPARE_AND_WRITE, 0x1f, lba, 0xffff_ff01), Ok(swap)),
-        (
-            block(READ, 0, lba, 257),
-            Err(CdbFault::BadField { byte: 10 }),
-        ),
-        (
-            block(WRITE, 0, lba, 0x0100_0000),
-            Err(CdbFault::BadField { byte: 10 }),
-        ),
-        (
-            block(COMPARE_AND_WRITE, 0, lba, 2),
-            Err(CdbFault::BadField { byte: 13 }),
-        ),
-        (
-            block(READ, 0x20, lba, 257),
-            Err(CdbFault::BadField { byte: 1 }),
-        ),
-        (
-            block(COMPARE_AND_WRITE, 0x80, lba, 2),
-            Err(CdbFault::BadField { byte: 1 }),
-        ),
+        (block(READ, 0, lba, 257), bad_field(10)),
+        (block(WRITE, 0, lba, 0x0100_0000), bad_field(10)),
+        (block(COMPARE_AND_WRITE, 0, lba, 2), bad_field(13)),
+        (block(READ, 0x20, lba, 257), bad_field(1)),
+        (block(COMPARE_AND_WRITE, 0x80, lba, 2), bad_field(1)),
         (block(0x28, 0x20, lba, 257), Err(CdbFault::BadOpcode)),
     ];
     for (bytes, want) in cases {

@@ -29,8 +29,10 @@ pub fn write_blocks(lun: &mut MemLun, at: SectorNo, count: u32, out: &[u8])
     requires whole { length out.now ≡ 512 * count }
     ensures { lun.new ≡ overwritten lun.old at (images_in count out.now) }
 {
+    let mut fresh = Sector::zero();
     for i in 0..count {
-        let fresh = image_at(out, 512 * i as usize);
+        let start = 512 * i as usize;
+        fresh.bytes.copy_from_slice(&out[start..start + 512]);
         lun.write(at + i, &fresh);
     }
 }

@@ -1,8 +1,4 @@
-use Rattle.std.proofs.Common.{◌≡◌, ℕ, ◌<◌, length, List, arith, ap, sym, subst, ◌∙◌, Ok}
-use Rattle.ds_base.specs.declared.commands.Command.{Command}
-use Rattle.ds_base.specs.declared.sectors.Sector.{Sector}
-use Rattle.ds_base.specs.Device.{target_of, Answers, stored}
-use Rattle.ds_scsi.specs.Forms.{form_of}
+use Rattle.std.proofs.Common.{◌<◌, length, arith, ◌∙◌}
 use Rattle.ds_target.proofs.Singles.{read_one, write_one, swap_one, swap_one_answers}
 use Rattle.ds_target.proofs.sending.send.Goals as goal
 

@@ -1,4 +1,4 @@
-use Rattle.std.proofs.Common.{arith, ◌∙◌}
+use Rattle.std.proofs.Common.{◌∙◌}
 use Rattle.ds_target.proofs.Comparing.{stored_one, told_one}
 use Rattle.ds_target.proofs.transfers.compare_and_write.Goals as goal
 

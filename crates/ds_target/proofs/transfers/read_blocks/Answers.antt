@@ -1,4 +1,4 @@
-use Rattle.std.proofs.Common.{◌≡◌, length, arith, sym, ◌∙◌, ap}
+use Rattle.std.proofs.Common.{◌≡◌, length, arith, ◌∙◌, ap}
 use Rattle.ds_target.proofs.Runs.{read_turn, length-bytes_from_more}
 use Rattle.ds_target.proofs.transfers.read_blocks.Goals as goal
 

@@ -1,4 +1,4 @@
-use Rattle.std.proofs.Common.{◌≡◌, ◌+◌, ◌*◌, ◌++◌, length, drop}
+use Rattle.std.proofs.Common.{◌≡◌, ◌*◌, ◌++◌, length, drop}
 use Rattle.ds_target.specs.Blocks.{bytes_from}
 use Rattle.ds_target.proofs.transfers.read_blocks.Given as goal
 

@@ -1,4 +1,5 @@
 use Rattle.std.proofs.Common.{arith, sym}
+use Rattle.ds_base.specs.declared.sectors.Sector.{Sector}
 use Rattle.ds_target.specs.Blocks.{images_in}
 use Rattle.ds_target.proofs.Runs.{overwritten_none, write_turn}
 use Rattle.ds_target.proofs.transfers.write_blocks.Goals as goal
@@ -9,5 +10,6 @@ loop-i-init c = sym (overwritten_none c.args.lun.now c.args.at)
 
 pub loop-i-preserved : goal.loop-i-preserved
 loop-i-preserved c =
-    write_turn c.args.lun.now c.args.at c.loop-i.i c.args.out.now c.image_at-fresh.result _ _
-    (omega arith) c.image_at-fresh.ensures c.loop-i.invariant c.write.ensures
+    let fresh : Sector = record { bytes = c.copy_from_slice.new.self } in
+    write_turn c.args.lun.now c.args.at c.loop-i.i c.args.out.now fresh _ _
+      (omega arith) c.copy_from_slice.ensures.after c.loop-i.invariant c.write.ensures
