@@ -2,8 +2,10 @@
 #![tactic(auto)]
 
 mod calls;
+mod counts;
 mod listing;
 mod objects;
+mod refusals;
 mod scenarios;
 mod trees;
 mod variables;

@@ -1,6 +1,7 @@
 //! The objects of a tree in memory.
 ghost use Rattle.std.specs.Prelude.{◌≡◌, true, OnOk, OnErr, Some, None, option_map, slice_get, option_copied};
 ghost use Rattle.std.specs.FinMap as maps;
+ghost use Rattle.ds_tree.specs.InMemory.{node_of};
 ghost use Rattle.ds_tree.specs.Nodes.{Dir, File, kind_of, blocks_of};
 ghost use Rattle.ds_tree.specs.Steps.{is_dir, entries_above};
 ghost use Rattle.ds_tree.specs.Trees.{entries_of, rooms_of};
@@ -71,6 +72,15 @@ impl ObjectInMemory {
         ensures { result ≡ self.now.birth }
     {
         self.birth
+    }
+
+    pub(crate) fn node(&self) -> Option<&NodeInMemory>
+        ensures { option_map (λ n. node_of n.now) result ≡ self.now.node }
+    {
+        match &self.node {
+            None => None,
+            Some(node) => Some(node),
+        }
     }
 
     pub(crate) fn kind(&self) -> Option<NodeKind>

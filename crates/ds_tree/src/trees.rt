@@ -3,11 +3,12 @@ ghost use Rattle.std.specs.Prelude.{◌≡◌, ◌<◌, ◌≤◌, ◌+◌, ◌-
 ghost use Rattle.std.specs.FinMap as maps;
 ghost use Rattle.ds_base.specs.declared.geometry.Kind.TheVariants as kinds;
 ghost use Rattle.ds_base.specs.Geometry.{IsGeom, items_of};
-ghost use Rattle.ds_tree.specs.Nodes.{Dir, File, object_at, node_at, birth_at, kind_of, blocks_of, with_object, with_node, fresh_tree, unborn};
+ghost use Rattle.ds_tree.specs.InMemory.{node_of};
+ghost use Rattle.ds_tree.specs.Nodes.{Dir, File, object_at, node_at, node_of_key, birth_at, kind_of, blocks_of, with_object, with_node, fresh_tree, unborn};
 ghost use Rattle.ds_tree.specs.Steps.{is_dir, entries_above};
 ghost use Rattle.ds_tree.specs.Trees.{TreeValue, entries_of, rooms_of, is_worn};
 
-use crate::objects::ObjectInMemory;
+use crate::objects::{NodeInMemory, ObjectInMemory};
 use ds_base::{Geom, Key, Kind, Name, NoMemory, NodeKind, ObjNo};
 use std::alloc::Global;
 use std::marker::Model;
@@ -168,6 +169,38 @@ impl Tree {
     {
         let it = &mut self.objects[dir as usize];
         it.put_entry(name, object)
+    }
+
+    /// The node that a key names: that of its object, if this is still that life.
+    pub(crate) fn node(&self, key: Key) -> Option<&NodeInMemory>
+        ensures { option_map (λ n. node_of n.now) result ≡ node_of_key self.now.tree key }
+    {
+        if self.birth(key.object) != key.birth {
+            return None;
+        }
+        self.node_at(key.object)
+    }
+
+    pub(crate) fn node_at(&self, object: ObjNo) -> Option<&NodeInMemory>
+        ensures { option_map (λ n. node_of n.now) result ≡ node_at self.now.tree object }
+    {
+        match self.object(object) {
+            Some(it) => it.node(),
+            None => None,
+        }
+    }
+
+    pub(crate) fn objects(&self) -> &[ObjectInMemory]
+        ensures { result.now ≡ self.now.tree.objects }
+    {
+        self.objects.as_slice()
+    }
+
+    /// All items of a kind.
+    pub(crate) fn items(&self, kind: Kind) -> u32
+        ensures value { result ≡ items_of self.now.geom kind }
+    {
+        count_of(&self.geom, kind)
     }
 
     fn object(&self, object: ObjNo) -> Option<&ObjectInMemory>
