@@ -97,3 +97,6 @@ pub none_above : (after : Option (List ℕ)) → slice_get (entries_above maps.e
 none_above after =
     let none : maps.entries (maps.empty {X = ℕ} {R = cmp}) ≡ [] = no_items _ (sym (maps.len-entries _) ∙ maps.len-empty cmp ℕ) in
     ap (λ es. slice_get (filter (λ (e : List ℕ × ℕ). is_above after e.0) es) 0) none
+
+pub get_empty : (name : List ℕ) → maps.get (maps.empty {X = ℕ} {R = cmp}) name ≡ None
+get_empty name = maps.get-empty cmp name

@@ -1,2 +1,3 @@
 mod EntryLists
 mod GeometryBounds
+mod ObjectLists

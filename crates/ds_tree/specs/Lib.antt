@@ -8,3 +8,4 @@ pub mod InMemory
 pub mod Codes
 pub mod CallNames
 pub mod WellFormed
+pub mod Lowest

@@ -2,6 +2,7 @@
 #![tactic(auto)]
 
 mod calls;
+mod changes;
 mod counts;
 mod listing;
 mod objects;
