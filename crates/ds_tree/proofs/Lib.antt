@@ -1,3 +1,4 @@
 mod EntryLists
 mod GeometryBounds
 mod ObjectLists
+mod Renaming

@@ -4,7 +4,7 @@ use Rattle.std.proofs.lemmas.Option.{slice_get_cases, unwrap_or-slice_get}
 use Rattle.std.proofs.lemmas.List.Sums.{sum_by-cons}
 use Rattle.std.proofs.lemmas.List.Elements.{All-head, All-tail, All-from_get_or}
 use Rattle.std.proofs.Common.{◌≡◌, ◌≢◌, ℕ, suc, ◌+◌, ◌-◌, ◌<◌, ◌≤◌, ◌^◌, Bool, true, false, List, [], ◌∷◌, length, inl, inr, refl, sym, ap, subst, ◌∙◌, arith}
-use Rattle.std.specs.Prelude.{Option, Some, None, IsSome, unwrap_or, slice_index_or, All}
+use Rattle.std.specs.Prelude.{Option, Some, None, IsSome, is_some, unwrap_or, slice_index_or, All}
 use Rattle.std.specs.List.{sum_by}
 use Rattle.ds_base.specs.declared.geometry.Geom.{Geom}
 use Rattle.ds_base.specs.declared.geometry.Kind.TheVariants.{Fd}
@@ -60,3 +60,11 @@ with_object-twice t n a b = same_tree _ _ (set-set t.objects n a b)
 
 pub with_object-swap : (t : FileTree) (m n : ℕ) (a b : Object) → m ≢ n → with_object (with_object t m a) n b ≡ with_object (with_object t n b) m a
 with_object-swap t m n a b apart = same_tree _ _ (set_comm t.objects m n a b apart)
+
+pub none_from : {A : Type 0} (o : Option A) → is_some o ≡ false → o ≡ None
+none_from None h = refl
+none_from (Some x) h = absurd (cc)
+
+-- a directory stands at a number of the tree
+pub dir_in_range : (t : FileTree) (n : ℕ) → is_dir (node_at t n) ≡ true → n < length t.objects
+dir_in_range t n h = in_range t n (ap is_some (dir_parts (node_at t n) h))

@@ -6,6 +6,7 @@ mod changes;
 mod counts;
 mod listing;
 mod objects;
+mod reads;
 mod refusals;
 mod scenarios;
 mod trees;

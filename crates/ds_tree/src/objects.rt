@@ -1,9 +1,9 @@
 //! The objects of a tree in memory.
-ghost use Rattle.std.specs.Prelude.{◌≡◌, ◌≤◌, ◌+◌, true, OnOk, OnErr, Some, None, option_map, slice_get, option_copied};
+ghost use Rattle.std.specs.Prelude.{◌≡◌, ◌≤◌, ◌<◌, ◌+◌, ◌++◌, length, take, true, OnOk, OnErr, Some, None, option_map, slice_get, option_copied};
 ghost use Rattle.std.specs.FinMap as maps;
 ghost use Rattle.ds_tree.specs.InMemory.{node_of};
 ghost use Rattle.ds_tree.specs.Nodes.{Dir, File, kind_of, blocks_of};
-ghost use Rattle.ds_tree.specs.Steps.{is_dir, is_full, entries_above, rooms_with_one_more};
+ghost use Rattle.ds_tree.specs.Steps.{is_dir, is_file, is_full, entries_above, rooms_with_one_more};
 ghost use Rattle.ds_tree.specs.Trees.{entries_of, rooms_of};
 
 use crate::listing::Listing;
@@ -192,6 +192,20 @@ impl ObjectInMemory {
         }
     }
 
+    /// Gives a file a size: keeps its first blocks, and adds these at its end.
+    pub(crate) fn set_size(&mut self, size: u32, added: &[u32]) -> Result<(), NoMemory>
+        requires file { is_file self.old.node ≡ true }
+        requires added { 0 < length added.now → length (blocks_of self.old.node) ≤ size }
+        ensures ok { OnOk result (self.new ≡ record { birth = self.old.birth;
+            node = Some (File (take size (blocks_of self.old.node) ++ added.now)) }) }
+        ensures err { OnErr result (self.new ≡ self.old) }
+    {
+        match &mut self.node {
+            Some(NodeInMemory::File { blocks }) => set_size(blocks, size as usize, added),
+            _ => unreachable!(),
+        }
+    }
+
     /// Takes an entry out of a directory. Its room stays.
     pub(crate) fn remove_entry(&mut self, name: &Name)
         requires { is_dir self.old.node ≡ true }
@@ -203,4 +217,16 @@ impl ObjectInMemory {
             _ => unreachable!(),
         }
     }
+}
+
+fn set_size(blocks: &mut Vec<u32>, size: usize, added: &[u32]) -> Result<(), NoMemory>
+    requires { 0 < length added.now → length blocks.old.items ≤ size }
+    ensures ok { OnOk result (blocks.new.items ≡ take size blocks.old.items ++ added.now) }
+    ensures err { OnErr result (blocks.new.items ≡ blocks.old.items) }
+{
+    if added.is_empty() {
+        blocks.truncate(size);
+        return Ok(());
+    }
+    blocks.extend_from_slice(added).map_err(|_| NoMemory)
 }

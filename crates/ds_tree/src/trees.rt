@@ -1,11 +1,11 @@
 //! The file tree in memory.
-ghost use Rattle.std.specs.Prelude.{◌≡◌, ◌<◌, ◌≤◌, ◌+◌, ◌-◌, ◌∷◌, IfOk, OnOk, OnErr, Some, None, IsTrue, true, option_map, option_copied, slice_get, unwrap_or, length, replicate};
+ghost use Rattle.std.specs.Prelude.{◌≡◌, ◌<◌, ◌≤◌, ◌+◌, ◌-◌, ◌∷◌, IfOk, OnOk, OnErr, Some, None, IsTrue, true, option_map, option_copied, slice_get, unwrap_or, length, take, ◌++◌, replicate};
 ghost use Rattle.std.specs.FinMap as maps;
 ghost use Rattle.ds_base.specs.declared.geometry.Kind.TheVariants as kinds;
 ghost use Rattle.ds_base.specs.Geometry.{IsGeom, items_of};
 ghost use Rattle.ds_tree.specs.InMemory.{node_of};
 ghost use Rattle.ds_tree.specs.Nodes.{Dir, File, object_at, node_at, node_of_key, birth_at, kind_of, blocks_of, with_object, with_node, fresh_tree, unborn};
-ghost use Rattle.ds_tree.specs.Steps.{is_dir, entries_above, rooms_with_one_more};
+ghost use Rattle.ds_tree.specs.Steps.{is_dir, is_file, entries_above, rooms_with_one_more};
 ghost use Rattle.ds_tree.specs.Trees.{TreeValue, entries_of, rooms_of, is_worn, empty_node};
 
 use crate::objects::{NodeInMemory, ObjectInMemory};
@@ -242,6 +242,23 @@ impl Tree {
                 self.put_file(key, blocks)
             }
         }
+    }
+
+    /// Gives a file a size: keeps its first blocks, and adds these at its end.
+    pub(crate) fn set_size(&mut self, file: ObjNo, size: u32, added: &[u32]) -> Result<(), NoMemory>
+        requires file { is_file (node_at self.old.tree file) ≡ true }
+        requires added { 0 < length added.now → length (blocks_of (node_at self.old.tree file)) ≤ size }
+        ensures geom { self.new.geom ≡ self.old.geom }
+        ensures ok { OnOk result (self.new.tree ≡ with_node self.old.tree file
+            (File (take size (blocks_of (node_at self.old.tree file)) ++ added.now))) }
+        ensures err { OnErr result (self.new.tree ≡ self.old.tree) }
+    {
+        let it = &mut self.objects[file as usize];
+        it.set_size(size, added)
+    }
+
+    pub(crate) fn alloc(&self) -> Global {
+        self.alloc
     }
 
     /// Makes an object's number free; its last birth stays.
