@@ -1,4 +1,5 @@
 mod EntryLists
 mod GeometryBounds
 mod ObjectLists
+mod Blocks
 mod Renaming

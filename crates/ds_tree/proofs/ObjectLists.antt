@@ -4,12 +4,13 @@ use Rattle.std.proofs.lemmas.Option.{slice_get_cases, unwrap_or-slice_get}
 use Rattle.std.proofs.lemmas.List.Sums.{sum_by-cons}
 use Rattle.std.proofs.lemmas.List.Elements.{All-head, All-tail, All-from_get_or}
 use Rattle.std.proofs.Common.{◌≡◌, ◌≢◌, ℕ, suc, ◌+◌, ◌-◌, ◌<◌, ◌≤◌, ◌^◌, Bool, true, false, List, [], ◌∷◌, length, inl, inr, refl, sym, ap, subst, ◌∙◌, arith}
-use Rattle.std.specs.Prelude.{Option, Some, None, IsSome, is_some, unwrap_or, slice_index_or, All}
+use Rattle.std.specs.Prelude.{Option, Some, None, IsSome, option_map, is_some, unwrap_or, slice_index_or, All}
 use Rattle.std.specs.List.{sum_by}
 use Rattle.ds_base.specs.declared.geometry.Geom.{Geom}
 use Rattle.ds_base.specs.declared.geometry.Kind.TheVariants.{Fd}
+use Rattle.ds_base.specs.declared.names.NodeKind.{NodeKind}
 use Rattle.ds_base.specs.Geometry.{items_of}
-use Rattle.ds_tree.specs.Nodes.{Entries, Node, Dir, File, Object, FileTree, unborn, object_at, node_at, birth_at, with_object}
+use Rattle.ds_tree.specs.Nodes.{Entries, Node, Dir, File, Object, FileTree, unborn, object_at, node_at, birth_at, with_object, kind_of}
 use Rattle.ds_tree.specs.Counts.{node_uses, used_of, free_of}
 use Rattle.ds_tree.specs.Steps.{is_dir}
 use Rattle.ds_tree.specs.Trees.{entries_of, rooms_of}
@@ -68,3 +69,7 @@ none_from (Some x) h = absurd (cc)
 -- a directory stands at a number of the tree
 pub dir_in_range : (t : FileTree) (n : ℕ) → is_dir (node_at t n) ≡ true → n < length t.objects
 dir_in_range t n h = in_range t n (ap is_some (dir_parts (node_at t n) h))
+
+pub kind_is : (n : Option Node) (kind : NodeKind) → option_map kind_of n ≡ Some kind → (node : Node) × (n ≡ Some node) × (kind ≡ kind_of node)
+kind_is None kind h = absurd (cc)
+kind_is (Some node) kind h = let e : kind ≡ kind_of node = cc in (node, refl, e)

@@ -115,7 +115,7 @@ impl Tree {
     {
         let mut used = Vec::from_elem(self.alloc(), false, self.items(Kind::Fb) as usize).map_err(|_| NoMemory)?;
         for object in self.objects() {
-            mark(used.as_mut_slice(), object.blocks());
+            mark(&mut used, object.blocks());
         }
         Ok(used)
     }
@@ -136,10 +136,12 @@ impl Tree {
 }
 
 /// Marks blocks as used.
-fn mark(used: &mut [bool], blocks: &[u32])
-    requires { All (λ b. b < length used.old) blocks.now }
-    ensures { (b : ℕ) → b < length used.old
-        → slice_index_or used.new b false ≡ (slice_index_or used.old b false || list_any (nat_eq b) blocks.now) }
+fn mark(used: &mut Vec<bool>, blocks: &[u32])
+    requires { All (λ b. b < length used.old.items) blocks.now }
+    ensures len { length used.new.items ≡ length used.old.items }
+    ensures marks { (b : ℕ) → b < length used.old.items
+        → slice_index_or used.new.items b false
+            ≡ (slice_index_or used.old.items b false || list_any (nat_eq b) blocks.now) }
 {
     for block in blocks {
         used[*block as usize] = true;
