@@ -1,6 +1,6 @@
 -- Which blocks files have.
 use Rattle.std.proofs.Common.{◌≡◌, ℕ, ◌+◌, ◌*◌, ◌<◌, ◌≤◌, ◌-◌, suc, zero, min, cond, Bool, true, false, List, [], ◌∷◌, ◌++◌, length, take, drop, filter, add-one, length-append, refl, sym, ap, subst, ◌∙◌, arith, slice_index_or}
-use Rattle.std.specs.Prelude.{All}
+use Rattle.std.specs.Prelude.{All, Result, Ok, Err, IsOk, OnOk}
 use Rattle.std.specs.List.{flat_map, list_any, range_with_len, slice_range}
 use Rattle.std.proofs.lemmas.List.Folds.{length-flat_map-take}
 use Rattle.std.proofs.lemmas.List.Concat.{get_or-flat_map}
@@ -63,3 +63,7 @@ module _ (p : ℕ → Bool) (count n : ℕ) where
 -- what a read of a table tells, whatever the read's default
 pub tested : (xs : List Bool) (i : ℕ) (r q : Bool) → i < length xs → r ≡ slice_index_or xs i r → slice_index_or xs i false ≡ q → r ≡ q
 tested xs i r q h e is = e ∙ get_or_default xs i r false h ∙ is
+
+pub on_ok : {T E P : Type 0} (r : Result T E) → IsOk r → OnOk r P → P
+on_ok (Ok v) is p = p
+on_ok (Err e) is p = absurd (cc)
