@@ -3,3 +3,5 @@ mod GeometryBounds
 mod ObjectLists
 mod Blocks
 mod Renaming
+mod Granted
+mod Pages

@@ -9,6 +9,7 @@ mod objects;
 mod reads;
 mod refusals;
 mod scenarios;
+mod steps;
 mod trees;
 mod variables;
 

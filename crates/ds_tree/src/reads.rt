@@ -1,14 +1,17 @@
 //! The calls that read a tree.
-ghost use Rattle.std.specs.Prelude.{◌≡◌, ◌*◌, true, IfSome, IsSome, length, take, drop, slice_get, Some};
+ghost use Rattle.std.specs.Prelude.{◌≡◌, ◌*◌, true, IfSome, IfOk, length, take, drop, map, option_copied};
 ghost use Rattle.std.specs.FinMap as maps;
-ghost use Rattle.ds_tree.specs.Nodes.{Node, node_at, blocks_of, kind_of};
-ghost use Rattle.ds_tree.specs.Steps.{is_dir, Finds, size_of};
+ghost use Rattle.ds_base.specs.Names.{IsName};
+ghost use Rattle.ds_tree.specs.Nodes.{Node, node_at, birth_at, blocks_of, kind_of};
+ghost use Rattle.ds_tree.specs.Steps.{is_dir, Finds, size_of, entries_above};
 ghost use Rattle.ds_tree.specs.Trees.{entries_of};
 ghost use Rattle.ds_tree.specs.WellFormed.{IsTree};
 
+use crate::objects::NodeInMemory;
+use crate::refusals::name_of;
 use crate::trees::Tree;
 use arrayvec::ArrayVec;
-use ds_base::{Key, Name, NodeKind, ObjNo};
+use ds_base::{Key, Name, NoMemory, NodeKind, ObjNo, Word};
 
 /// The blocks of a page of a file's map.
 const PAGE: usize = 128;
@@ -59,5 +62,49 @@ impl Tree {
         let mut list = ArrayVec::new();
         let _ = list.try_extend_from_slice(&blocks[from..end]);
         list
+    }
+
+    /// The number of entries of a directory.
+    pub(crate) fn entry_count(&self, dir: ObjNo) -> u32
+        requires dir { is_dir (node_at self.now.tree dir) ≡ true }
+        requires tree { IsTree self.now.geom self.now.tree }
+        ensures { result ≡ maps.len (entries_of (node_at self.now.tree dir)) }
+    {
+        let Some(NodeInMemory::Dir { entries, .. }) = self.node_at(dir) else {
+            unreachable!()
+        };
+        entries.len() as u32
+    }
+
+    /// The first names of a directory above one, with their keys.
+    pub(crate) fn list(&self, dir: ObjNo, after: Option<&Name>) -> Result<ArrayVec<(Name, Key), 32>, NoMemory>
+        requires { is_dir (node_at self.now.tree dir) ≡ true }
+        ensures { IfOk result (λ page. page.items
+            ≡ map (λ e. (e.0, record { object = e.1; birth = birth_at self.now.tree e.1 }))
+                (take 32 (entries_above (entries_of (node_at self.now.tree dir)) (option_copied after.entry)))) }
+    {
+        let Some(NodeInMemory::Dir { entries, .. }) = self.node_at(dir) else {
+            unreachable!()
+        };
+        let mut page = ArrayVec::new();
+        let mut rest = entries.above(after);
+        while let Some((name, object)) = rest.next() {
+            page.push((name.clone().map_err(|_| NoMemory)?, self.key_of(*object)));
+            if page.is_full() {
+                return Ok(page);
+            }
+        }
+        Ok(page)
+    }
+}
+
+/// The name after which a page begins.
+pub(crate) fn after_of(after: &Option<Word>) -> Option<Name>
+    requires { IfSome after.now IsName }
+    ensures { result ≡ after.now }
+{
+    match after {
+        Some(word) => Some(name_of(word)),
+        None => None,
     }
 }
