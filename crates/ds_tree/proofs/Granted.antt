@@ -49,9 +49,9 @@ node_of_key-is t key = go (birth_at t key.object == key.birth) (node_at t key.ob
     go false n h = absurd (cc)
 
 -- the directory of a call that isn't refused
-pub record InDir (t : FileTree) (dir : Key) (next : Entries → ℕ → Option TreeReply) : Type 0 where
-  pub is : is_dir (node_at t dir.object) ≡ true
-  pub next : next (entries_of (node_at t dir.object)) (rooms_of (node_at t dir.object)) ≡ None
+pub record InDir (t : FileTree) (key : Key) (rest : Entries → ℕ → Option TreeReply) : Type 0 where
+  pub is : is_dir (node_at t key.object) ≡ true
+  pub next : rest (entries_of (node_at t key.object)) (rooms_of (node_at t key.object)) ≡ None
 
 pub in_dir-granted : (t : FileTree) (dir : Key) (next : Entries → ℕ → Option TreeReply) → in_dir (node_of_key t dir) next ≡ None → InDir t dir next
 in_dir-granted t dir next h =
@@ -59,9 +59,9 @@ in_dir-granted t dir next h =
     let e = node_of_key-is t dir (is_some_dir _ g.0) in
     record { is = ap is_dir (sym e) ∙ g.0; next = ap (λ n. next (entries_of n) (rooms_of n)) (sym e) ∙ g.1 }
 
-pub record InFile (t : FileTree) (file : Key) (next : List ℕ → Option TreeReply) : Type 0 where
-  pub is : is_file (node_at t file.object) ≡ true
-  pub next : next (blocks_of (node_at t file.object)) ≡ None
+pub record InFile (t : FileTree) (key : Key) (rest : List ℕ → Option TreeReply) : Type 0 where
+  pub is : is_file (node_at t key.object) ≡ true
+  pub next : rest (blocks_of (node_at t key.object)) ≡ None
 
 pub in_file-granted : (t : FileTree) (file : Key) (next : List ℕ → Option TreeReply) → in_file (node_of_key t file) next ≡ None → InFile t file next
 in_file-granted t file next h =

@@ -5,3 +5,4 @@ mod Blocks
 mod Renaming
 mod Granted
 mod Pages
+mod FreeBlocks

@@ -10,9 +10,9 @@ use Rattle.ds_base.specs.declared.geometry.Geom.{Geom}
 use Rattle.ds_base.specs.declared.geometry.Kind.TheVariants.{Fd}
 use Rattle.ds_base.specs.declared.names.NodeKind.{NodeKind}
 use Rattle.ds_base.specs.Geometry.{items_of}
-use Rattle.ds_tree.specs.Nodes.{Entries, Node, Dir, File, Object, FileTree, unborn, object_at, node_at, birth_at, with_object, kind_of}
+use Rattle.ds_tree.specs.Nodes.{Entries, Node, Dir, File, Object, FileTree, unborn, object_at, node_at, birth_at, with_object, kind_of, blocks_of}
 use Rattle.ds_tree.specs.Counts.{node_uses, used_of, free_of}
-use Rattle.ds_tree.specs.Steps.{is_dir}
+use Rattle.ds_tree.specs.Steps.{is_dir, is_file}
 use Rattle.ds_tree.specs.Trees.{entries_of, rooms_of}
 
 one_each : (node : Option Node) → IsSome node → node_uses Fd node ≡ 1
@@ -73,3 +73,9 @@ dir_in_range t n h = in_range t n (ap is_some (dir_parts (node_at t n) h))
 pub kind_is : (n : Option Node) (kind : NodeKind) → option_map kind_of n ≡ Some kind → (node : Node) × (n ≡ Some node) × (kind ≡ kind_of node)
 kind_is None kind h = absurd (cc)
 kind_is (Some node) kind h = let e : kind ≡ kind_of node = cc in (node, refl, e)
+
+-- a file by its parts
+pub file_parts : (node : Option Node) → is_file node ≡ true → node ≡ Some (File (blocks_of node))
+file_parts (Some (Dir entries rooms)) h = absurd (cc)
+file_parts (Some (File blocks)) h = refl
+file_parts None h = absurd (cc)

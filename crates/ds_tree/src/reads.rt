@@ -89,7 +89,8 @@ impl Tree {
         let mut page = ArrayVec::new();
         let mut rest = entries.above(after);
         while let Some((name, object)) = rest.next() {
-            page.push((name.clone().map_err(|_| NoMemory)?, self.key_of(*object)));
+            let name = copy_of(name)?;
+            page.push((name, self.key_of(*object)));
             if page.is_full() {
                 return Ok(page);
             }
@@ -107,4 +108,10 @@ pub(crate) fn after_of(after: &Option<Word>) -> Option<Name>
         Some(word) => Some(name_of(word)),
         None => None,
     }
+}
+
+fn copy_of(name: &Name) -> Result<Name, NoMemory>
+    ensures { IfOk result (λ copy. copy ≡ name.now) }
+{
+    name.clone().map_err(|_| NoMemory)
 }

@@ -69,9 +69,9 @@ impl Tree {
                 let list = self.page_of(file.object, *page);
                 Ok(TreeReply::Blocks { list })
             }
-            CallOf::Resize { file, blocks } => {
-                self.resize(*file, *blocks)?;
-                Ok(TreeReply::Sized { blocks: *blocks })
+            CallOf::Resize { file, blocks: size } => {
+                self.resize(*file, *size)?;
+                Ok(TreeReply::Sized { blocks: *size })
             }
             CallOf::Remove { dir, name } => {
                 let key = self.remove(*dir, &name_of(name));
