@@ -6,3 +6,4 @@ mod Renaming
 mod Granted
 mod Pages
 mod FreeBlocks
+mod FreshTree

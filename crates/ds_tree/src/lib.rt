@@ -13,6 +13,9 @@ mod steps;
 mod trees;
 mod variables;
 
+#[cfg(test)]
+mod tests;
+
 pub use calls::{Call, CallOf, HostCall, HostCallOf, TreeReply};
 pub use scenarios::{Directive, HostPlan, Items, Point, Scenario};
 pub use trees::Tree;

@@ -7,6 +7,7 @@ ghost use Rattle.ds_tree.specs.InMemory.{node_of};
 ghost use Rattle.ds_tree.specs.Nodes.{Dir, File, object_at, node_at, node_of_key, birth_at, kind_of, blocks_of, with_object, with_node, fresh_tree, unborn};
 ghost use Rattle.ds_tree.specs.Steps.{is_dir, is_file, entries_above, rooms_with_one_more};
 ghost use Rattle.ds_tree.specs.Trees.{TreeValue, entries_of, rooms_of, is_worn, empty_node};
+ghost use Rattle.ds_tree.specs.WellFormed.{IsTree};
 
 use crate::objects::{NodeInMemory, ObjectInMemory};
 use ds_base::{Geom, Key, Kind, Name, NoMemory, NodeKind, ObjNo};
@@ -46,6 +47,7 @@ impl Tree {
         requires { IsGeom geom.now }
         ensures geom { IfOk result (λ t. t.geom ≡ geom.now) }
         ensures tree { IfOk result (λ t. t.tree ≡ fresh_tree geom.now) }
+        ensures rules { IfOk result (λ t. IsTree t.geom t.tree) }
     {
         let count = count_of(geom, Kind::Fd);
         let mut objects = Vec::with_capacity(alloc, count as usize).map_err(|_| NoMemory)?;
