@@ -16,7 +16,7 @@ pub enum NodeKind {
 }
 
 /// One life of an object. The root is object 0 with birth 1; births begin at 1 and are at most 2^62.
-#[derive(Clone, Copy, Debug, PartialEq, Eq, PartialOrd, Ord)]
+#[derive(Clone, Copy, Debug, Default, PartialEq, Eq, PartialOrd, Ord)]
 pub struct Key {
     pub object: ObjNo,
     pub birth: u64,
@@ -73,6 +73,19 @@ impl Model for Name {
     ghost invariant = { λ n. IsName n.bytes.items };
 
     ghost inverse = { λ bytes. record { bytes = record { items = bytes } } };
+}
+
+/// A name for places of a list that no name stands in yet: `0`.
+impl Default for Name {
+    ghost use Rattle.std.specs.Prelude.{◌≡◌, [], ◌∷◌};
+
+    ghost is_default = { λ n. n ≡ 48 ∷ [] };
+
+    fn default() -> Self {
+        let mut bytes = ArrayVec::new();
+        bytes.push(b'0');
+        Name { bytes }
+    }
 }
 
 impl Name {

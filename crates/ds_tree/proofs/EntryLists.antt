@@ -2,7 +2,7 @@
 use Rattle.std.proofs.Common.{◌≡◌, ℕ, Bool, true, false, cond, ◌&&◌, T, List, [], ◌∷◌, map, length, refl, sym, ap, subst, ◌∙◌, arith}
 use Rattle.std.specs.Prelude.{Option, Some, None, slice_get}
 use Rattle.std.specs.declared.cmp.Ordering.{Ordering}
-use Rattle.std.specs.declared.cmp.Ordering.TheVariants.{Less}
+use Rattle.std.specs.declared.cmp.Ordering.TheVariants.{Less, Equal, Greater}
 use Rattle.std.specs.Ordering.{nat_cmp, is_lt, is_eq, eq_by_cmp}
 use Rattle.std.specs.Cmp.{eq_by_cmp_equiv}
 use Rattle.std.specs.Cmp.Lexicographic.{slice_cmp, nat_list_cmp_total}
@@ -97,3 +97,29 @@ pub none_above : (after : Option (List ℕ)) → slice_get (entries_above maps.e
 none_above after =
     let none : maps.entries (maps.empty {X = ℕ} {R = cmp}) ≡ [] = no_items _ (sym (maps.len-entries _) ∙ maps.len-empty cmp ℕ) in
     ap (λ es. slice_get (filter (λ (e : List ℕ × ℕ). is_above after e.0) es) 0) none
+
+pub get_empty : (name : List ℕ) → maps.get (maps.empty {X = ℕ} {R = cmp}) name ≡ None
+get_empty name = maps.get-empty cmp name
+
+equal : (r : Ordering) → is_eq r ≡ true → r ≡ Equal
+equal Less e = absurd (cc)
+equal Equal e = refl
+equal Greater e = absurd (cc)
+
+apart : (a b : Bool) (x y z : Option ℕ) → (a ≡ true → ¬ (b ≡ true)) → cond a x (cond b y z) ≡ cond b y (cond a x z)
+apart true true x y z h = absurd (h refl refl)
+apart true false x y z h = refl
+apart false b x y z h = refl
+
+-- an entry goes, and one with another name comes, in either order
+pub remove-insert : (m : Map) (name fresh : List ℕ) (v w : ℕ) → maps.get m name ≡ Some w → maps.get m fresh ≡ None
+    → maps.remove (maps.insert m fresh v) name ≡ maps.insert (maps.remove m name) fresh v
+remove-insert m name fresh v w there absent = maps.same_map nat_list_cmp_total same _ _ (λ q.
+    maps.get-remove nat_list_cmp_total (maps.insert m fresh v) name q
+    ∙ ap (cond (eq_by_cmp cmp q name) None) (maps.get-insert nat_list_cmp_total m fresh v q)
+    ∙ apart (eq_by_cmp cmp q name) (eq_by_cmp cmp q fresh) None (Some v) (maps.get m q) (λ at_name at_fresh.
+        let e : name ≡ fresh = sym (same q name (equal _ at_name)) ∙ same q fresh (equal _ at_fresh) in
+        let both : Some w ≡ None = sym there ∙ ap (maps.get m) e ∙ absent in
+        cc)
+    ∙ ap (cond (eq_by_cmp cmp q fresh) (Some v)) (sym (maps.get-remove nat_list_cmp_total m name q))
+    ∙ sym (maps.get-insert nat_list_cmp_total (maps.remove m name) fresh v q))

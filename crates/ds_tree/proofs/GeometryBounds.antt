@@ -1,11 +1,11 @@
 -- What the ranges of a geometry add up to.
-use Rattle.std.proofs.Common.{◌≡◌, ℕ, ◌+◌, ◌-◌, ◌*◌, ◌≤◌, List, [], ◌∷◌, ◌++◌, length, replicate, ap, ◌∙◌, arith}
+use Rattle.std.proofs.Common.{◌≡◌, ℕ, ◌+◌, ◌-◌, ◌≤◌, [], ◌∷◌, ◌++◌, length, replicate, ap, ◌∙◌, arith}
 use Rattle.std.proofs.lemmas.List.{length-replicate, replicate_more}
 use Rattle.std.proofs.Math.Nat.{one-le-mul}
 use Rattle.ds_base.specs.declared.geometry.Geom.{Geom}
 use Rattle.ds_base.specs.declared.geometry.Kind.{Kind}
 use Rattle.ds_base.specs.declared.geometry.GeomField.TheVariants.{Clusters, Items}
-use Rattle.ds_base.specs.Geometry.{IsGeom, items_of, clusters_of, per_cluster}
+use Rattle.ds_base.specs.Geometry.{IsGeom, items_of}
 
 -- each kind has an item
 pub items_of-positive : (g : Geom) (kind : Kind) → IsGeom g → 1 ≤ items_of g kind

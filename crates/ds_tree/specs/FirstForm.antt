@@ -1,6 +1,6 @@
 -- The form of the scenarios that can be run now: one host, which registers and then creates and looks up files in the root
 -- directory of one fixed volume. A text of this form is the scenario written out.
-use Rattle.std.specs.Prelude.{◌≡◌, ℕ, ◌+◌, ◌≤◌, Bool, true, false, List, [], ◌∷◌, ◌++◌, length, count_by, codes, Option, Some, None}
+use Rattle.std.specs.Prelude.{◌≡◌, ℕ, ◌+◌, ◌≤◌, Bool, true, false, List, [], ◌∷◌, ◌++◌, length, count_by, codes, None}
 use Rattle.std.specs.List.{flat_map, AllByRecursion}
 use Rattle.ds_base.specs.declared.geometry.Geom.{Geom}
 use Rattle.ds_base.specs.Names.{IsName}

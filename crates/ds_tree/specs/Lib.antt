@@ -6,3 +6,6 @@ pub mod Trees
 pub mod FirstForm
 pub mod InMemory
 pub mod Codes
+pub mod CallNames
+pub mod WellFormed
+pub mod Lowest

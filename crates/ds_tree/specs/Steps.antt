@@ -1,6 +1,6 @@
 -- What each call on a file tree does: the first refusal whose condition holds, which changes nothing; else the reply and
 -- exactly the named change, with any free choice of object numbers, births and blocks.
-use Rattle.std.specs.Prelude.{◌≡◌, ◌≢◌, ℕ, ◌+◌, ◌-◌, ◌*◌, ◌<◌, ◌==◌, ◌&&◌, Bool, true, false, not, nat_eq, nat_le, nat_lt, if◌then◌else◌, List, [], ◌∷◌, ◌++◌, length, take, drop, map, filter, slice_get, All, Contains, Option, Some, None, is_none, MatchOption}
+use Rattle.std.specs.Prelude.{◌≡◌, ℕ, ◌+◌, ◌-◌, ◌*◌, ◌<◌, ◌==◌, ◌&&◌, Bool, true, false, not, nat_eq, nat_le, nat_lt, if◌then◌else◌, List, [], ◌++◌, length, take, drop, map, filter, slice_get, All, Contains, Option, Some, None, is_none, MatchOption}
 use Rattle.std.specs.Ordering.{nat_cmp, is_lt}
 use Rattle.std.specs.Cmp.Lexicographic.{slice_cmp}
 use Rattle.std.specs.List.{IsDistinct}
@@ -8,13 +8,12 @@ use Rattle.std.specs.FinMap as maps
 use Rattle.ds_base.specs.declared.geometry.Geom.{Geom}
 use Rattle.ds_base.specs.declared.geometry.Kind.TheVariants.{Fd, Sb, Pb, Fb}
 use Rattle.ds_base.specs.declared.names.Key.{Key}
-use Rattle.ds_base.specs.declared.names.NodeKind.{NodeKind}
 use Rattle.ds_base.specs.Geometry.{items_of}
 use Rattle.ds_tree.specs.declared.calls.CallOf.{CallOf}
 use Rattle.ds_tree.specs.declared.calls.CallOf.TheVariants as calls
 use Rattle.ds_tree.specs.declared.calls.TreeReply.{TreeReply}
 use Rattle.ds_tree.specs.declared.calls.TreeReply.TheVariants as replies
-use Rattle.ds_tree.specs.Nodes.{Entries, Node, Dir, File, Object, FileTree, node_at, birth_at, node_of_key, kind_of, blocks_of, all_blocks, with_object, with_node}
+use Rattle.ds_tree.specs.Nodes.{Entries, Node, Dir, File, FileTree, node_at, birth_at, node_of_key, kind_of, blocks_of, all_blocks, with_object, with_node}
 use Rattle.ds_tree.specs.Counts.{pointer_blocks, free_of}
 
 -- Refusals

@@ -1,9 +1,11 @@
 -- What contracts see of a `Tree`.
-use Rattle.std.specs.Prelude.{ℕ, ◌^◌, nat_le, Bool, Option, Some}
+use Rattle.std.specs.Prelude.{ℕ, [], ◌^◌, nat_le, Bool, Option, Some}
 use Rattle.std.specs.List.{list_any}
 use Rattle.std.specs.FinMap as maps
 use Rattle.ds_base.specs.declared.geometry.Geom.{Geom}
-use Rattle.ds_tree.specs.Nodes.{Entries, Node, Dir, FileTree}
+use Rattle.ds_base.specs.declared.names.NodeKind.{NodeKind}
+use Rattle.ds_base.specs.declared.names.NodeKind.TheVariants as nodes
+use Rattle.ds_tree.specs.Nodes.{Entries, Node, Dir, File, FileTree}
 
 -- a file tree, and the geometry that it was made for
 pub record TreeValue : Type 0 where
@@ -23,3 +25,8 @@ rooms_of _ = 0
 -- whether some number's last birth is 2^62 or more
 abbrev pub is_worn : FileTree → Bool
 is_worn t = list_any (λ o. nat_le (2 ^ 62) o.birth) t.objects
+
+-- a new directory or file
+abbrev pub empty_node : NodeKind → Node
+empty_node nodes.Dir = Dir maps.empty 0
+empty_node nodes.File = File []

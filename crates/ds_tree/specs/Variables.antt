@@ -1,5 +1,5 @@
 -- Which words are variables.
-use Rattle.std.specs.Prelude.{◌≡◌, ◌≢◌, ℕ, ◌≤◌, Bool, true, nat_le, ◌&&◌, ◌||◌, List, [], ◌∷◌, length, slice_index, codes}
+use Rattle.std.specs.Prelude.{◌≡◌, ◌≢◌, ℕ, ◌≤◌, Bool, true, nat_le, ◌&&◌, ◌||◌, List, length, slice_index, codes}
 use Rattle.std.specs.List.{list_all}
 
 abbrev pub is_lower_or_digit : ℕ → Bool

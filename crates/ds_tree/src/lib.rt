@@ -2,11 +2,19 @@
 #![tactic(auto)]
 
 mod calls;
+mod changes;
+mod counts;
 mod listing;
 mod objects;
+mod reads;
+mod refusals;
 mod scenarios;
+mod steps;
 mod trees;
 mod variables;
+
+#[cfg(test)]
+mod tests;
 
 pub use calls::{Call, CallOf, HostCall, HostCallOf, TreeReply};
 pub use scenarios::{Directive, HostPlan, Items, Point, Scenario};

@@ -78,7 +78,8 @@ impl Listing {
         Some((name, *object))
     }
 
-    fn above(&self, after: Option<&Name>) -> Range<'_, Name, ObjNo>
+    /// The entries above a name, in order.
+    pub fn above(&self, after: Option<&Name>) -> Range<'_, Name, ObjNo>
         ensures { result ≡ entries_above self.now (option_copied after.entry) }
     {
         let Some(name) = after else {

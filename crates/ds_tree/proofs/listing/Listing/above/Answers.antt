@@ -1,4 +1,4 @@
-use Rattle.std.proofs.Common.{sym, ◌∙◌, ap}
+use Rattle.std.proofs.Common.{◌∙◌, ap}
 use Rattle.std.specs.Prelude.{Some, None}
 use Rattle.ds_tree.specs.Steps.{entries_above}
 use Rattle.ds_tree.proofs.EntryLists.{above-of_entries, all-of_entries}

@@ -1,4 +1,4 @@
-use Rattle.std.proofs.Common.{sym, ◌∙◌, ap, rules}
+use Rattle.std.proofs.Common.{◌∙◌, ap}
 use Rattle.std.specs.FinMap as maps
 use Rattle.ds_tree.proofs.EntryLists.{cmp, is_sorted-of, remove-of_entries}
 use Rattle.ds_tree.proofs.listing.Listing.remove.Goals as goal
