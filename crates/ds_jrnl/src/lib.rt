@@ -1,0 +1,9 @@
+//! Journals: the index of a committed transaction, and the sectors that are written again.
+#![tactic(auto)]
+
+mod index;
+mod index_parts;
+mod redo;
+
+pub use index::Index;
+pub use redo::Redo;
