@@ -4,5 +4,7 @@
 mod bits;
 mod packing;
 mod searching;
+#[cfg(test)]
+mod tests;
 
 pub use bits::Bits;

@@ -4,6 +4,8 @@
 mod index;
 mod index_parts;
 mod redo;
+#[cfg(test)]
+mod tests;
 
 pub use index::Index;
 pub use redo::Redo;
