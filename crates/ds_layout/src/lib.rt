@@ -1,0 +1,11 @@
+//! Where the places of a volume are, and the volume's first two sectors.
+#![tactic(auto)]
+
+mod places;
+mod regions;
+mod volume;
+#[cfg(test)]
+mod tests;
+
+pub use places::{Place, place_of, sector_of, total};
+pub use volume::{decode_fs, decode_vol, encode_fs, encode_vol};

@@ -1,0 +1,4 @@
+pub mod Header
+pub mod HeaderParts
+pub mod Slot
+pub mod SlotParts

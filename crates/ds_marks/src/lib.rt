@@ -1,0 +1,12 @@
+//! The marks of hosts: heartbeat slots, and the headers of locks.
+#![tactic(auto)]
+
+mod header;
+mod header_parts;
+mod slot;
+mod slot_parts;
+#[cfg(test)]
+mod tests;
+
+pub use header::{Header, Owner};
+pub use slot::{Journal, Slot, SlotState};
