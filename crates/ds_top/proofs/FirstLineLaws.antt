@@ -3,10 +3,9 @@ use Rattle.std.proofs.Common.{◌≡◌, ◌≢◌, ℕ, ◌<◌, List, [], ◌�
 use Rattle.std.specs.Prelude.{Option, Some, None, slice_index}
 use Rattle.std.specs.List.{AllByRecursion}
 use Rattle.std.proofs.lemmas.List.{append_cancel_left}
-use Rattle.std.proofs.lemmas.List.Elements.{recursion_from_All, All-weaker}
 use Rattle.ds_base.specs.Decoding.{IsDecoded}
 use Rattle.ds_base.specs.Names.{IsName}
-use Rattle.ds_base.proofs.NameLaws.{IsPrinted, IsName-printed}
+use Rattle.ds_base.proofs.NameLaws.{IsName-no_line_feed}
 use Rattle.ds_tree.specs.declared.calls.CallOf.TheVariants as calls
 use Rattle.ds_tree.specs.declared.calls.HostCallOf.TheVariants as host_calls
 use Rattle.ds_tree.specs.declared.scenarios.Directive.{Directive}
@@ -69,8 +68,7 @@ decoded_lookup words bytes name call split named made found = (
     inside e = cc
 
 IsUnbroken-name : (name : List ℕ) → IsName name → IsUnbroken name
-IsUnbroken-name name h =
-    recursion_from_All (λ b. b ≢ 10) name (All-weaker IsPrinted (λ b. b ≢ 10) (λ b printed is. absurd (omega (arith, printed.0, is))) name (IsName-printed name h))
+IsUnbroken-name name h = IsUnbroken-from_none name (IsName-no_line_feed name h)
 
 -- no line feed is among the words of a call
 pub IsUnbroken-words : (call : Directive) → IsFirstDirective call → IsUnbroken (directive_words call)
