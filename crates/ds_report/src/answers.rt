@@ -103,7 +103,11 @@ fn write_info(text: &mut Growing, kind: NodeKind, size: u32) -> Result<(), NoMem
     text.number(u64::from(size))
 }
 
-fn write_page(text: &mut Growing, total: u32, names: &[(Name, Key)]) -> Result<(), NoMemory>
+pub(crate) fn write_page(
+    text: &mut Growing,
+    total: u32,
+    names: &[(Name, Key)],
+) -> Result<(), NoMemory>
     ensures { OnOk result (text.new ≡ text.old ++ (codes "ok " ++ decimal total ++ flat_map entry_text names.now)) }
 {
     write_number(text, total)?;

@@ -9,3 +9,6 @@ mod reports;
 
 pub use listings::listing;
 pub use reports::parts;
+
+#[cfg(test)]
+mod tests;
