@@ -1,0 +1,165 @@
+//! The texts of answers.
+ghost use Rattle.std.specs.Prelude.{◌≡◌, ◌++◌, OnOk, codes, decimal};
+ghost use Rattle.std.specs.List.{flat_map};
+ghost use Rattle.ds_report.specs.Answers.{answer_text, tree_text, no_space_text, key_text, kind_text, entry_text, item_text, place_text};
+
+use crate::growing::Growing;
+use ds_base::{Key, Kind, Name, NoMemory, NodeKind};
+use ds_host::HostAnswer;
+use ds_tree::TreeReply;
+
+#[tactic(auto, using(crate::proofs::Pieces::then_two))]
+pub(crate) fn write_answer(text: &mut Growing, answer: &HostAnswer) -> Result<(), NoMemory>
+    ensures { OnOk result (text.new ≡ text.old ++ answer_text answer.now) }
+{
+    match answer {
+        HostAnswer::Tree(reply) => write_reply(text, reply),
+        HostAnswer::Registered { slot, generation } => {
+            text.bytes(b"ok ")?;
+            text.pair(u64::from(*slot), *generation)
+        }
+        HostAnswer::Damaged { sector } => {
+            text.bytes(b"damaged ")?;
+            text.number(u64::from(*sector))
+        }
+    }
+}
+
+#[tactic(auto, using(crate::proofs::Pieces::then_two))]
+pub(crate) fn write_place(
+    text: &mut Growing,
+    answer: &HostAnswer,
+    place: Option<u32>,
+) -> Result<(), NoMemory>
+    ensures { OnOk result (text.new ≡ text.old ++ place_text answer.now place) }
+{
+    match (answer, place) {
+        (HostAnswer::Tree(_), Some(place)) => {
+            text.bytes(b" at ")?;
+            text.number(u64::from(place))
+        }
+        _ => Ok(()),
+    }
+}
+
+fn write_reply(text: &mut Growing, reply: &TreeReply) -> Result<(), NoMemory>
+    ensures { OnOk result (text.new ≡ text.old ++ tree_text reply.now) }
+{
+    match reply {
+        TreeReply::Made { key } | TreeReply::Gone { key } | TreeReply::Moved { key } => write_key(
+            text, *key,
+        ),
+        TreeReply::Found { key, kind } => write_found(text, *key, *kind),
+        TreeReply::Page { total, names } => write_page(text, *total, names.as_slice()),
+        TreeReply::Info { kind, size } => write_info(text, *kind, *size),
+        TreeReply::Blocks { list } => write_blocks(text, list.as_slice()),
+        TreeReply::Sized { blocks } | TreeReply::Opened { blocks } => write_number(text, *blocks),
+        TreeReply::AtBlock { block } => write_number(text, *block),
+        TreeReply::NoObject => text.bytes(b"no-object"),
+        TreeReply::NotDir => text.bytes(b"not-dir"),
+        TreeReply::NotFile => text.bytes(b"not-file"),
+        TreeReply::NotFound => text.bytes(b"not-found"),
+        TreeReply::Exists => text.bytes(b"exists"),
+        TreeReply::NotEmpty => text.bytes(b"not-empty"),
+        TreeReply::DirFull => text.bytes(b"dir-full"),
+        TreeReply::NoSpace { kind } => text.bytes(no_space(*kind)),
+        TreeReply::TooBig => text.bytes(b"too-big"),
+        TreeReply::TooMuch => text.bytes(b"too-much"),
+        TreeReply::CrossDir => text.bytes(b"cross-dir"),
+        TreeReply::NoBlock => text.bytes(b"no-block"),
+    }
+}
+
+#[tactic(auto, using(crate::proofs::Pieces::then_two))]
+fn write_key(text: &mut Growing, key: Key) -> Result<(), NoMemory>
+    ensures { OnOk result (text.new ≡ text.old ++ (codes "ok " ++ key_text key)) }
+{
+    text.bytes(b"ok ")?;
+    text.key(key)
+}
+
+#[tactic(auto, using(crate::proofs::Pieces::then_two))]
+fn write_number(text: &mut Growing, number: u32) -> Result<(), NoMemory>
+    ensures { OnOk result (text.new ≡ text.old ++ (codes "ok " ++ decimal number)) }
+{
+    text.bytes(b"ok ")?;
+    text.number(u64::from(number))
+}
+
+fn write_found(text: &mut Growing, key: Key, kind: NodeKind) -> Result<(), NoMemory>
+    ensures { OnOk result (text.new ≡ text.old ++ (codes "ok " ++ key_text key ++ codes " " ++ kind_text kind)) }
+{
+    write_key(text, key)?;
+    text.bytes(b" ")?;
+    text.bytes(kind_word(kind))
+}
+
+fn write_info(text: &mut Growing, kind: NodeKind, size: u32) -> Result<(), NoMemory>
+    ensures { OnOk result (text.new ≡ text.old ++ (codes "ok " ++ kind_text kind ++ codes " " ++ decimal size)) }
+{
+    text.bytes(b"ok ")?;
+    text.bytes(kind_word(kind))?;
+    text.bytes(b" ")?;
+    text.number(u64::from(size))
+}
+
+pub(crate) fn write_page(
+    text: &mut Growing,
+    total: u32,
+    names: &[(Name, Key)],
+) -> Result<(), NoMemory>
+    ensures { OnOk result (text.new ≡ text.old ++ (codes "ok " ++ decimal total ++ flat_map entry_text names.now)) }
+{
+    write_number(text, total)?;
+    for (name, key) in names {
+        write_entry(text, name, *key)?;
+    }
+    Ok(())
+}
+
+fn write_entry(text: &mut Growing, name: &Name, key: Key) -> Result<(), NoMemory>
+    ensures { OnOk result (text.new ≡ text.old ++ entry_text (name.now, key)) }
+{
+    text.bytes(b" ")?;
+    text.bytes(name.bytes())?;
+    text.bytes(b"=")?;
+    text.key(key)
+}
+
+fn write_blocks(text: &mut Growing, blocks: &[u32]) -> Result<(), NoMemory>
+    ensures { OnOk result (text.new ≡ text.old ++ (codes "ok" ++ flat_map item_text blocks.now)) }
+{
+    text.bytes(b"ok")?;
+    for block in blocks {
+        write_item(text, *block)?;
+    }
+    Ok(())
+}
+
+#[tactic(auto, using(crate::proofs::Pieces::then_two))]
+fn write_item(text: &mut Growing, number: u32) -> Result<(), NoMemory>
+    ensures { OnOk result (text.new ≡ text.old ++ item_text number) }
+{
+    text.bytes(b" ")?;
+    text.number(u64::from(number))
+}
+
+fn kind_word(kind: NodeKind) -> &'static [u8]
+    ensures { result.now ≡ kind_text kind }
+{
+    match kind {
+        NodeKind::File => b"file",
+        NodeKind::Dir => b"dir",
+    }
+}
+
+fn no_space(kind: Kind) -> &'static [u8]
+    ensures { result.now ≡ no_space_text kind }
+{
+    match kind {
+        Kind::Fd => b"no-space fd",
+        Kind::Sb => b"no-space sb",
+        Kind::Pb => b"no-space pb",
+        Kind::Fb => b"no-space fb",
+    }
+}

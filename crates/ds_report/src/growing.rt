@@ -1,0 +1,67 @@
+//! A text that grows.
+ghost use Rattle.std.specs.Prelude.{◌≡◌, ◌++◌, [], OnOk, OnErr, decimal};
+ghost use Rattle.ds_report.specs.Answers.{pair_text};
+
+use ds_base::{Key, NoMemory};
+use itoa::Buffer;
+use std::alloc::Global;
+use std::marker::Model;
+
+/// A text that grows, which contracts see as its bytes.
+#[derive(Drop)]
+pub(crate) struct Growing {
+    bytes: Vec<u8>,
+}
+
+impl Model for Growing {
+    ghost use Rattle.std.specs.Prelude.{ℕ, List};
+
+    ghost Value = { List ℕ };
+
+    ghost view = { λ t. t.bytes.items };
+}
+
+impl Growing {
+    pub(crate) fn new(alloc: Global) -> Growing
+        ensures { result ≡ [] }
+    {
+        Growing {
+            bytes: Vec::new(alloc),
+        }
+    }
+
+    pub(crate) fn bytes(&mut self, bytes: &[u8]) -> Result<(), NoMemory>
+        ensures { OnOk result (self.new ≡ self.old ++ bytes.now) }
+    {
+        self.bytes.extend_from_slice(bytes).map_err(|_| NoMemory)
+    }
+
+    pub(crate) fn number(&mut self, number: u64) -> Result<(), NoMemory>
+        ensures { OnOk result (self.new ≡ self.old ++ decimal number) }
+    {
+        let mut buffer = Buffer::new();
+        self.bytes(buffer.format(number).as_bytes())
+    }
+
+    /// Two numbers with a dot between them.
+    #[tactic(auto, using(crate::proofs::Pieces::then_three))]
+    pub(crate) fn pair(&mut self, first: u64, second: u64) -> Result<(), NoMemory>
+        ensures { OnOk result (self.new ≡ self.old ++ pair_text first second) }
+    {
+        self.number(first)?;
+        self.bytes(b".")?;
+        self.number(second)
+    }
+
+    pub(crate) fn key(&mut self, key: Key) -> Result<(), NoMemory>
+        ensures { OnOk result (self.new ≡ self.old ++ pair_text key.object key.birth) }
+    {
+        self.pair(u64::from(key.object), key.birth)
+    }
+
+    pub(crate) fn into_bytes(self) -> Vec<u8>
+        ensures { result.items ≡ self }
+    {
+        self.bytes
+    }
+}

@@ -1,0 +1,4 @@
+mod Cuts
+mod FirstLineLaws
+mod FirstListLaws
+mod EdgeLaws
