@@ -1,0 +1,131 @@
+-- The first world before its first turn, and what its log promises.
+use Rattle.std.proofs.Common.{◌≡◌, ℕ, zero, suc, ◌+◌, ◌≤◌, List, [], ◌∷◌, ◌++◌, length, take, drop, refl, ap, sym, subst, ◌∙◌, arith, cond, false, Option, Some, None}
+use Rattle.std.specs.Prelude.{slice_get, count_by}
+use Rattle.std.specs.List.{AllByRecursion}
+use Rattle.std.proofs.lemmas.List.Sums.{sum_by-cons}
+use Rattle.ds_base.specs.declared.sectors.Sector.{Sector}
+use Rattle.ds_base.specs.declared.names.Key.{Key}
+use Rattle.ds_tree.specs.declared.calls.CallOf.TheVariants as calls
+use Rattle.ds_tree.specs.declared.calls.HostCallOf.TheVariants as host_calls
+use Rattle.ds_tree.specs.declared.scenarios.Directive.{Directive}
+use Rattle.ds_tree.specs.declared.scenarios.Directive.TheVariants as directives
+use Rattle.ds_tree.specs.declared.scenarios.HostPlan.{HostPlan}
+use Rattle.ds_tree.specs.declared.scenarios.Scenario.{Scenario}
+use Rattle.ds_tree.specs.declared.variables.Spoken.{Spoken}
+use Rattle.ds_tree.specs.declared.variables.Spoken.TheVariants.{Root}
+use Rattle.ds_tree.specs.FirstForm.{register, is_create, first_geom, IsFirstDirective, IsFirstForm}
+use Rattle.ds_dir.proofs.Laws.{empty_sub, sub_bytes-empty, IsSubBlock-empty}
+use Rattle.ds_host.specs.declared.first_host.Stage.TheVariants.{Rest}
+use Rattle.ds_world.specs.declared.logs.Event.{Event}
+use Rattle.ds_world.specs.declared.logs.Reply.{Reply}
+use Rattle.ds_world.specs.History.{Calls}
+use Rattle.ds_world.specs.Headline.{StandsAfter, Headline}
+use Rattle.ds_world.specs.Scripts.{list_of, directive_at, key_of, call_of, calls_of}
+use Rattle.ds_world.specs.FirstRules.{zero_sector, first_rules, tree_of}
+use Rattle.ds_world.specs.FirstWorlds.{FirstWorldValue, FirstHolds}
+use Rattle.ds_world.proofs.FirstScripts.{plan_list, list_is, no_list}
+
+same_call : (key other : Spoken → Key) → key Root ≡ other Root → (d : Directive) → IsFirstDirective d → call_of key (Some d) ≡ call_of other (Some d)
+same_call key other same (directives.Call (host_calls.Tree (calls.Create Root name)) None) is = ap (λ (k : Key). Some (calls.Create k name)) same
+same_call key other same (directives.Call (host_calls.Tree (calls.Lookup Root name)) None) is = ap (λ (k : Key). Some (calls.Lookup k name)) same
+same_call key other same _ is = absurd is
+
+same_among : (key other : Spoken → Key) → key Root ≡ other Root → (list : List Directive) (n : ℕ) → AllByRecursion IsFirstDirective list
+    → call_of key (slice_get list n) ≡ call_of other (slice_get list n)
+same_among key other same [] n all = refl
+same_among key other same (d ∷ list) zero all = same_call key other same d all.0
+same_among key other same (d ∷ list) (suc n) all = same_among key other same list n all.1
+
+same_listed : (key other : Spoken → Key) → key Root ≡ other Root → (list : List Directive) (n : ℕ) → AllByRecursion IsFirstDirective list
+    → call_of key (slice_get (register ∷ list) n) ≡ call_of other (slice_get (register ∷ list) n)
+same_listed key other same list zero all = refl
+same_listed key other same list (suc n) all = same_among key other same list n all
+
+-- the calls of such a scenario don't depend on replies
+calls_same : (s : Scenario) (form : IsFirstForm s) (replies : List Reply) (host n : ℕ) → calls_of s [] host n ≡ calls_of s replies host n
+calls_same s form replies host zero = refl
+calls_same s form replies zero (suc n) =
+    let key = key_of s [] 0 (suc n) in
+    let other = key_of s replies 0 (suc n) in
+    ap (λ (list : List Directive). call_of key (slice_get list n)) (list_is s form)
+    ∙ same_listed key other refl form.calls n form.built
+    ∙ sym (ap (λ (list : List Directive). call_of other (slice_get list n)) (list_is s form))
+calls_same s form replies (suc host) (suc n) =
+    let none = no_list s form host in
+    ap (λ (list : List Directive). call_of (key_of s [] (suc host) (suc n)) (slice_get list n)) none
+    ∙ sym (ap (λ (list : List Directive). call_of (key_of s replies (suc host) (suc n)) (slice_get list n)) none)
+
+-- what holds of the first world is the headline of its log
+pub headline_of : (w : FirstWorldValue) → FirstHolds w → Headline first_rules first_geom (calls_of w.scenario w.log.replies) w.log.events w.log.replies
+headline_of w h =
+    let path : calls_of w.scenario [] ≡ calls_of w.scenario w.log.replies = λ i host n. calls_same w.scenario h.form w.log.replies host n i in
+    let P : Calls → Type 0 = λ calls. Headline first_rules first_geom calls w.log.events w.log.replies in
+    subst P path (record { trees = h.trees; changes = h.changes; whole = h.whole; legal = h.legal; image = h.image })
+
+nothing : {A : Type 0} (n : ℕ) → take {A = A} n [] ≡ []
+nothing zero = refl
+nothing (suc n) = refl
+
+abbrev pub first_value : Scenario → FirstWorldValue
+first_value s = record {
+  scenario = s;
+  position = 0;
+  host = record { registered = false; stage = Rest };
+  device = zero_sector ∷ [];
+  commits = 0;
+  log = record { events = []; replies = []; spare = 0 };
+}
+
+at_first : (s : Scenario) → StandsAfter first_rules (tree_of first_geom [] ∷ []) []
+at_first s = record {
+  tree = tree_of first_geom [];
+  there = refl;
+  stands = record { sector = zero_sector; block = empty_sub; there = refl; spelled = (IsSubBlock-empty, sym sub_bytes-empty); tree = refl };
+}
+
+creates_first : (s : Scenario) (form : IsFirstForm s) → count_by is_create (drop 0 (list_of s 0)) ≤ 4
+creates_first s form =
+    let all : count_by is_create (drop 0 (list_of s 0)) ≡ count_by is_create (register ∷ form.calls) = ap (λ (list : List Directive). count_by is_create (drop 0 list)) (list_is s form) in
+    omega (arith, all, sum_by-cons (λ (d : Directive). cond {A = ℕ} (is_create d) 1 0) register form.calls, form.creates)
+
+pub first_holds : (s : Scenario) → IsFirstForm s → FirstHolds (first_value s)
+first_holds s form =
+    let P : List Event → Type 0 = StandsAfter first_rules (tree_of first_geom [] ∷ []) in
+    record {
+      form = form;
+      within = omega arith;
+      sector = zero_sector;
+      block = empty_sub;
+      entries = [];
+      free = 4;
+      holds = record { one = refl; spelled = (IsSubBlock-empty, sym sub_bytes-empty); packed = refl; four = refl };
+      numbered = tt;
+      room = omega (arith, creates_first s form);
+      is_store = refl;
+      trees = tree_of first_geom [] ∷ [];
+      changes = [];
+      latest = refl;
+      changed = refl;
+      counted = refl;
+      whole = record { count = refl; each = λ n e at commits. absurd (cc at) };
+      legal = record {
+        steps = record { first = refl; count = refl; each = λ k c at. absurd (cc at) };
+        given = λ i r at. absurd (cc at);
+        stands = λ i r at. absurd (cc at);
+        in_order = λ i j r q m n less at there host place after. absurd (cc at);
+        one_reply = λ i j r q at there host directive. absurd (cc at);
+        one_change = λ i j c d at there host directive. absurd (cc at);
+      };
+      image = λ n le. subst P (sym (nothing n)) (at_first s);
+      follows = record {
+        next = λ n e at. absurd (cc at);
+        given = λ i r at. absurd (cc at);
+        rising = λ i j q r less at there. absurd (cc at);
+      };
+      done = λ n le. refl;
+      own = λ n le. refl;
+      registered = refl;
+      reached = record { events_reach = λ i e at. absurd (cc at); replies_reach = λ i r at. absurd (cc at); changes_reach = λ i c at. absurd (cc at) };
+      sent = refl;
+      stage = tt;
+    }

@@ -1,0 +1,12 @@
+pub mod Pushes
+pub mod Growing
+pub mod Legal
+pub mod Whole
+pub mod Following
+pub mod FirstTree
+pub mod FirstDoes
+pub mod FirstScripts
+pub mod FirstSteps
+pub mod FirstTurns
+pub mod FirstStart
+pub mod FirstMoves

@@ -1,0 +1,60 @@
+use Rattle.std.proofs.Common.{◌≡◌, ◌+◌, ◌<◌, ◌++◌, ◌∷◌, [], List, true, false, length, refl, sym, ap, subst, ◌∙◌, arith, Some, None, Option}
+use Rattle.ds_base.specs.declared.commands.Command.TheVariants.{Read, Swap}
+use Rattle.ds_host.specs.declared.answers.HostAnswer.{HostAnswer}
+use Rattle.ds_host.specs.declared.first_host.Stage.TheVariants.{Rest, Reading, Filling}
+use Rattle.ds_world.specs.declared.logs.Step.{Step}
+use Rattle.ds_world.specs.declared.logs.Event.{Event}
+use Rattle.ds_world.specs.declared.logs.Reply.{Reply}
+use Rattle.ds_world.specs.Scripts.{list_of}
+use Rattle.ds_world.specs.FirstWorlds.{FirstWorldValue, FirstHolds, AddsEvent, sent_event, local_event, reply_now, place_of, turns_at, stepped}
+use Rattle.ds_world.proofs.FirstSteps.{FirstHolds-as}
+use Rattle.ds_world.proofs.FirstMoves.{short_list, was_due, was_due_filling, may_take_read, may_take_swap, moved-read, moved-swap, IsRead, IsSwapped, GoesOn, IsAnswered, IsCommitted, swap_due, fewer_answered, fewer_filling, fewer_committed}
+use Rattle.std.specs.Prelude.{slice_get}
+use Rattle.ds_host.specs.FirstStates.{FirstState}
+use Rattle.ds_world.proofs.Pushes.{get-within}
+use Rattle.ds_world.proofs.FirstMoves.{begun_answered, begun, may_begin, moved-begun, moved-registered}
+use Rattle.ds_world.proofs.first_world.FirstWorld.begin.Goals as goal
+
+pub invariant_of-self : goal.invariant_of-self
+invariant_of-self c =
+    let w : FirstWorldValue = record { scenario = c.self.inside.scenario; position = c.self.inside.position; host = c.self.inside.host; device = c.self.inside.device; commits = c.self.inside.commits; log = c.self.inside.log } in
+    let h : FirstHolds w = c.self.invariant in
+    let rests : w.host.stage ≡ Rest = ap (λ (v : FirstWorldValue). v.host.stage) c.self.view_is ∙ c.requires.rests in
+    let d = c.in-Some.ensures.0 in
+    let at : slice_get (list_of w.scenario 0) w.position ≡ Some d = ap (λ (v : FirstWorldValue). slice_get (list_of v.scenario 0) v.position) c.self.view_is ∙ c.in-Some.ensures.1 in
+    let asks = c.in-Some.ensures.2 in
+    let new = c.begin.new.self in
+    let answer = c.in-Some-begin.answer in
+    let is = begun_answered w.host new c.in-Some.call d answer asks c.in-Some-begin.ensures in
+    let event : c.event_of-event.result ≡ local_event w = c.event_of-event.ensures in
+    let reply : c.reply_of-reply.result ≡ reply_now w answer (place_of answer w.commits) =
+    c.reply_of-reply.ensures ∙ (λ i. record { event = c.len.ensures i; host = 0; directive = w.position + 1; answer = answer; place = place_of answer w.commits }) in
+    let events : c.add_answered.new.self.events ≡ w.log.events ++ local_event w ∷ [] = c.add_answered.ensures.events ∙ ap (λ (e : Event). w.log.events ++ e ∷ []) event in
+    FirstHolds-as (stepped w (w.position + 1) new w.device w.commits (w.log.events ++ local_event w ∷ []) (w.log.replies ++ reply_now w answer (place_of answer w.commits) ∷ [])) _
+    refl refl refl refl refl (sym events) (sym (c.add_answered.ensures.replies ∙ ap (λ (r : Reply). w.log.replies ++ r ∷ []) reply)) (moved-registered w h new d answer rests at is)
+
+pub returns-in-Some-begin : goal.returns-in-Some-begin
+returns-in-Some-begin c =
+    let w : FirstWorldValue = record { scenario = c.self.inside.scenario; position = c.self.inside.position; host = c.self.inside.host; device = c.self.inside.device; commits = c.self.inside.commits; log = c.self.inside.log } in
+    let h : FirstHolds w = c.self.invariant in
+    let rests : w.host.stage ≡ Rest = ap (λ (v : FirstWorldValue). v.host.stage) c.self.view_is ∙ c.requires.rests in
+    let d = c.in-Some.ensures.0 in
+    let at : slice_get (list_of w.scenario 0) w.position ≡ Some d = ap (λ (v : FirstWorldValue). slice_get (list_of v.scenario 0) v.position) c.self.view_is ∙ c.in-Some.ensures.1 in
+    let asks = c.in-Some.ensures.2 in
+    let new = c.begin.new.self in
+    let answer = c.in-Some-begin.answer in
+    let is = begun_answered w.host new c.in-Some.call d answer asks c.in-Some-begin.ensures in
+    let event : c.event_of-event.result ≡ local_event w = c.event_of-event.ensures in
+    let reply : c.reply_of-reply.result ≡ reply_now w answer (place_of answer w.commits) =
+    c.reply_of-reply.ensures ∙ (λ i. record { event = c.len.ensures i; host = 0; directive = w.position + 1; answer = answer; place = place_of answer w.commits }) in
+    let events : c.add_answered.new.self.events ≡ w.log.events ++ local_event w ∷ [] = c.add_answered.ensures.events ∙ ap (λ (e : Event). w.log.events ++ e ∷ []) event in
+    let after : FirstWorldValue = record { scenario = w.scenario; position = w.position + 1; host = new; device = w.device; commits = w.commits; log = c.add_answered.new.self } in
+    let P : FirstWorldValue → Type 0 = λ v. AddsEvent v after in
+    let due = get-within (list_of w.scenario 0) w.position d at in
+    subst P c.self.view_is (record {
+      was_due = due;
+      event = local_event w;
+      added = events;
+      same_scenario = refl;
+      fewer = fewer_answered (length (list_of w.scenario 0)) w.position (turns_at w.host.stage) (turns_at new.stage) due (ap turns_at rests) (ap (λ (s : FirstState). turns_at s.stage) is.2);
+    })

@@ -1,0 +1,7 @@
+use Rattle.std.proofs.Common.{refl, sym}
+use Rattle.ds_world.proofs.FirstSteps.{FirstHolds-as}
+use Rattle.ds_world.proofs.first_world.FirstWorld.make_room.Goals as goal
+
+pub invariant_of-self : goal.invariant_of-self
+invariant_of-self c =
+    FirstHolds-as _ _ refl refl refl refl refl (sym c.make_room.ensures.events) (sym c.make_room.ensures.replies) c.self.invariant

@@ -1,0 +1,10 @@
+//! A device, its hosts, and the log of what happened.
+#![tactic(auto)]
+
+mod first_world;
+mod logs;
+mod moves;
+
+pub use first_world::FirstWorld;
+pub use logs::{Event, Log, Reply, Step};
+pub use moves::Moved;
