@@ -4,7 +4,6 @@ use crate::input::{InputFault, read_all};
 use crate::outcome::{LineFault, What, Why};
 use crate::output::{OutputFault, write_all};
 use ds_base::{MemSink, MemSource};
-
 use std::alloc::Global;
 use std::test::Fail;
 
@@ -33,8 +32,14 @@ fn reads_the_first_form_and_no_other(rt: HostRuntime) -> Result<(), Fail> {
         (b"".as_slice(), true),
         (b"a create root f1\n", true),
         (b"a lookup root ..x\n", true),
-        (b"a create root a\na create root b\na create root c\na create root d\na lookup root a\n", true),
-        (b"a create root a\na create root b\na create root c\na create root d\na create root e\n", false),
+        (
+            b"a create root a\na create root b\na create root c\na create root d\na lookup root a\n",
+            true,
+        ),
+        (
+            b"a create root a\na create root b\na create root c\na create root d\na create root e\n",
+            false,
+        ),
         (b"a create root f1", false),
         (b"a create root f1\r\n", false),
         (b"a create root f1 as v\n", false),
@@ -66,7 +71,11 @@ fn reads_and_writes_whole_or_tells_the_fault(rt: HostRuntime) -> Result<(), Fail
         assert_eq!(rt; read.as_ref().err().copied(), want);
         assert_eq!(rt; read.unwrap_or(bytes.clone()?).as_slice(), bytes.as_slice());
     }
-    for (room, failing, want) in [(5000, 9, Ok(())), (4999, 9, Err(OutputFault)), (5000, 1, Err(OutputFault))] {
+    for (room, failing, want) in [
+        (5000, 9, Ok(())),
+        (4999, 9, Err(OutputFault)),
+        (5000, 1, Err(OutputFault)),
+    ] {
         let mut sink = MemSink::new(alloc, room, vec![in alloc; failing]?)?;
         assert_eq!(rt; write_all(&mut sink, bytes.as_slice()), want);
         assert_eq!(rt; want.is_ok(), sink.bytes() == bytes.as_slice());
@@ -79,7 +88,11 @@ fn each_outcome_has_its_status_and_text(rt: HostRuntime) -> Result<(), Fail> {
     let why = LineFault::NotBuilt;
     let table = [
         (Why::Done, 0, ""),
-        (Why::BadLine { line: 4097, why }, 1, "bad line 4097: notbuilt"),
+        (
+            Why::BadLine { line: 4097, why },
+            1,
+            "bad line 4097: notbuilt",
+        ),
         (Why::TooLarge { what: What::Bytes }, 1, "too large: bytes"),
         (Why::BadWords, 2, "bad words"),
         (Why::ReadFault, 3, "read fault"),
