@@ -8,7 +8,7 @@ mod replies;
 mod reports;
 
 pub use listings::listing;
-pub use reports::parts;
+pub use reports::text;
 
 #[cfg(test)]
 mod tests;

@@ -9,11 +9,19 @@ use crate::listings::write_listing;
 use crate::replies::{host_name, write_line};
 use ds_base::NoMemory;
 use ds_tree::{Scenario, Tree};
-use ds_world::{Event, Reply, Step};
+use ds_world::{Event, Log, Reply, Step};
 use std::alloc::Global;
 
-/// The report of a run of this scenario, from its events and replies and the tree that it left.
-pub fn parts(
+/// The report of a run of this scenario, from the log of the run and the tree that it left.
+pub fn text(alloc: Global, scenario: &Scenario, log: &Log, tree: &Tree) -> Result<Vec<u8>, NoMemory>
+    requires { AreInOrder log.now.replies }
+    ensures { IfOk result (λ text. text.items ≡ report_of scenario.now log.now.events log.now.replies tree.now.tree) }
+{
+    whole(alloc, scenario, log.events(), log.replies(), tree)
+}
+
+/// The same, from the events and the replies of the run.
+pub(crate) fn whole(
     alloc: Global,
     scenario: &Scenario,
     events: &[Event],

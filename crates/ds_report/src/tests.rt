@@ -1,7 +1,8 @@
 //! Small reports and listings, written out by hand.
 use crate::answers::{write_answer, write_page};
 use crate::growing::Growing;
-use crate::{listing, parts};
+use crate::listing;
+use crate::reports::whole;
 use arrayvec::ArrayVec;
 use ds_base::{Command, Geom, Key, Kind, Name, NodeKind, ObjNo, Response, Sector, Word};
 use ds_host::HostAnswer;
@@ -297,7 +298,7 @@ fn a_report_has_a_part_for_each_event(rt: HostRuntime) -> Result<(), Fail> {
     let mut want = Growing::new(alloc);
     want.bytes(PARTS)?;
     want.bytes(LISTING)?;
-    let report = parts(alloc, &scenario(&rt, alloc)?, &events, &replies, &tree)?;
+    let report = whole(alloc, &scenario(&rt, alloc)?, &events, &replies, &tree)?;
     assert_eq!(rt; report.as_slice(), want.into_bytes().as_slice());
     assert_eq!(rt; listing(alloc, &tree)?.as_slice(), LISTING);
     Ok(())

@@ -10,3 +10,6 @@ pub use first_form::{FormFault, read};
 pub use input::{InputFault, read_all};
 pub use outcome::{LineFault, What, Why};
 pub use output::{OutputFault, write_all};
+
+#[cfg(test)]
+mod tests;
