@@ -41,7 +41,7 @@ does_succeed g t call reply u none succeeds =
 abbrev the_tree : List Entry → FileTree
 the_tree es = tree_of first_geom es
 
-abbrev the_files : List Entry → FileTree
+abbrev pub the_files : List Entry → FileTree
 the_files es = files_in (fresh_tree first_geom) es
 
 abbrev root_with : List Entry → Object
@@ -50,7 +50,7 @@ root_with es = record { birth = 1; node = Some (Dir (entries_map es) (rooms_for 
 count_files : (es : List Entry) → length (the_files es).objects ≡ 16
 count_files es = length-files (fresh_tree first_geom) es
 
-birth_of_root : (es : List Entry) → NumberedFrom 1 es → birth_at (the_files es) 0 ≡ 1
+pub birth_of_root : (es : List Entry) → NumberedFrom 1 es → birth_at (the_files es) 0 ≡ 1
 birth_of_root es numbered = ap (λ (o : Object). o.birth) (object_below (fresh_tree first_geom) 1 es 0 numbered (omega arith))
 
 root_object : (es : List Entry) → NumberedFrom 1 es → object_at (the_tree es) 0 ≡ root_with es
@@ -170,7 +170,7 @@ create_refuses_none es name numbered few none =
     ∙ ap (λ (b : Bool). refuse b (replies.NoSpace kinds.Sb) None) (room_is_had es few))
 
 -- two writes of one place, and of two places
-set-set : {A : Type 0} (xs : List A) (i : ℕ) (x y : A) → slice_set (slice_set xs i x) i y ≡ slice_set xs i y
+pub set-set : {A : Type 0} (xs : List A) (i : ℕ) (x y : A) → slice_set (slice_set xs i x) i y ≡ slice_set xs i y
 set-set [] i x y = refl
 set-set (z ∷ xs) zero x y = refl
 set-set (z ∷ xs) (suc i) x y = ap (λ zs. z ∷ zs) (set-set xs i x y)

@@ -39,6 +39,10 @@ use Rattle.ds_host.specs.FirstConduct.{tree_call, due, IsFirstCall, Begins, Spel
 use Rattle.ds_world.specs.declared.logs.Event.{Event}
 use Rattle.ds_world.specs.declared.logs.Reply.{Reply}
 use Rattle.ds_world.specs.Scripts.{list_of}
+use Rattle.ds_tree.specs.Nodes.{FileTree}
+use Rattle.ds_tree.specs.FirstForm.{first_geom}
+use Rattle.ds_world.specs.Store.{store}
+use Rattle.ds_world.specs.FirstRules.{NumberedFrom, first_rules, tree_of, IsTreeOf}
 use Rattle.ds_world.specs.FirstWorlds.{FirstWorldValue, turns_at, turns_left, root_directive, name_of, AsksFor, IsReading, IsSwapping, IsUnderWay, IsFilling, StageHolds, stepped, sent_event, local_event, reply_now, place_of, FirstHolds}
 use Rattle.ds_world.proofs.Pushes.{get-within}
 use Rattle.ds_world.proofs.FirstDoes.{named, does_lookup, does_exist}
@@ -393,3 +397,33 @@ moved-registered w h new d answer rests at is =
     let P : FirstState → HostAnswer → Type 0 = λ host a. FirstHolds (stepped w (w.position + 1) host w.device w.commits (w.log.events ++ local_event w ∷ []) (w.log.replies ++ reply_now w a (place_of a w.commits) ∷ [])) in
     let turned = turn-registered w h rests (at ∙ ap Some is.0) in
     subst (λ (host : FirstState). P host answer) (sym is.2) (subst (λ (a : HostAnswer). P (record { registered = true; stage = Rest }) a) (sym is.1) turned)
+
+-- The tree of the device
+
+-- a sub-block that the device spells is the one of the entries so far
+pub block_is : (w : FirstWorldValue) (h : FirstHolds w) (s : Sector) (block : SubBlock) → slice_get w.device 0 ≡ Some s → SpellsRooms s block → h.block ≡ block
+block_is w h s block at spelled = block_read w h s block (sector_read w h s at) spelled
+
+pub numbered_block : (w : FirstWorldValue) (h : FirstHolds w) (s : Sector) (block : SubBlock) → slice_get w.device 0 ≡ Some s → SpellsRooms s block → NumberedFrom 1 (entries_in block.rooms)
+numbered_block w h s block at spelled =
+    let same = block_is w h s block at spelled in
+    subst (λ (b : SubBlock). NumberedFrom 1 (entries_in b.rooms)) same (subst (NumberedFrom 1) (sym (entries_held w h)) h.numbered)
+
+-- the device stands for the tree of its entries
+pub tree_stands : (w : FirstWorldValue) (h : FirstHolds w) (s : Sector) (block : SubBlock) (t : FileTree) → slice_get w.device 0 ≡ Some s → SpellsRooms s block → t ≡ tree_of first_geom (entries_in block.rooms)
+    → IsTreeOf first_geom (store first_rules.start w.log.events) t
+tree_stands w h s block t at spelled is = record {
+  sector = s;
+  block = block;
+  there = ap (λ (sectors : List Sector). slice_get sectors 0) (sym h.is_store) ∙ at;
+  spelled = spelled;
+  tree = is;
+}
+
+-- and for no other
+pub tree_only : (w : FirstWorldValue) (h : FirstHolds w) (s : Sector) (block : SubBlock) (t u : FileTree) → slice_get w.device 0 ≡ Some s → SpellsRooms s block → t ≡ tree_of first_geom (entries_in block.rooms)
+    → IsTreeOf first_geom (store first_rules.start w.log.events) u → u ≡ t
+tree_only w h s block t u at spelled is stands =
+    let there : slice_get w.device 0 ≡ Some stands.sector = ap (λ (sectors : List Sector). slice_get sectors 0) h.is_store ∙ stands.there in
+    let same : stands.block ≡ block = sym (block_is w h stands.sector stands.block there stands.spelled) ∙ block_is w h s block at spelled in
+    stands.tree ∙ ap (λ (b : SubBlock). tree_of first_geom (entries_in b.rooms)) same ∙ sym is

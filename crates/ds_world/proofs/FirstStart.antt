@@ -1,5 +1,5 @@
 -- The first world before its first turn, and what its log promises.
-use Rattle.std.proofs.Common.{◌≡◌, ℕ, zero, suc, ◌+◌, ◌≤◌, List, [], ◌∷◌, ◌++◌, length, take, drop, refl, ap, sym, subst, ◌∙◌, arith, cond, false, Option, Some, None}
+use Rattle.std.proofs.Common.{◌≡◌, ℕ, zero, suc, ◌+◌, ◌≤◌, ◌∙◌, Bool, get_or, List, [], ◌∷◌, ◌++◌, length, take, drop, refl, ap, sym, subst, arith, cond, false, Option, Some, None}
 use Rattle.std.specs.Prelude.{slice_get, count_by}
 use Rattle.std.specs.List.{AllByRecursion}
 use Rattle.std.proofs.lemmas.List.Sums.{sum_by-cons}
@@ -16,11 +16,17 @@ use Rattle.ds_tree.specs.declared.variables.Spoken.TheVariants.{Root}
 use Rattle.ds_tree.specs.FirstForm.{register, is_create, first_geom, IsFirstDirective, IsFirstForm}
 use Rattle.ds_dir.proofs.Laws.{empty_sub, sub_bytes-empty, IsSubBlock-empty}
 use Rattle.ds_host.specs.declared.first_host.Stage.TheVariants.{Rest}
+use Rattle.std.proofs.Math.Seq.{take-length, drop-length}
+use Rattle.std.proofs.lemmas.Option.{slice_get-get_or}
+use Rattle.std.proofs.lemmas.Bool.Decides.{nat_tests}
 use Rattle.ds_world.specs.declared.logs.Event.{Event}
 use Rattle.ds_world.specs.declared.logs.Reply.{Reply}
 use Rattle.ds_world.specs.History.{Calls}
 use Rattle.ds_world.specs.Headline.{StandsAfter, Headline}
 use Rattle.ds_world.specs.Scripts.{list_of, directive_at, key_of, call_of, calls_of}
+use Rattle.ds_world.specs.Store.{change_count}
+use Rattle.ds_world.specs.Commits.{commits}
+use Rattle.ds_world.specs.Follows.{is_reply_before, finished, IsAtEnd, AreOf, NoneOf, InDrain, InReplayOrder}
 use Rattle.ds_world.specs.FirstRules.{zero_sector, first_rules, tree_of}
 use Rattle.ds_world.specs.FirstWorlds.{FirstWorldValue, FirstHolds}
 use Rattle.ds_world.proofs.FirstScripts.{plan_list, list_is, no_list}
@@ -107,6 +113,7 @@ first_holds s form =
       latest = refl;
       changed = refl;
       counted = refl;
+      taken = refl;
       whole = record { count = refl; each = λ n e at commits. absurd (cc at) };
       legal = record {
         steps = record { first = refl; count = refl; each = λ k c at. absurd (cc at) };
@@ -129,3 +136,47 @@ first_holds s form =
       sent = refl;
       stage = tt;
     }
+
+-- Ends and orders
+
+not_before : (host n : ℕ) (r : Reply) → r.host ≡ 0 → is_reply_before (suc host) n r ≡ false
+not_before host n r first = grind (arith, nat_tests)
+
+none_of_others : (replies : List Reply) (host n : ℕ) → ((i : ℕ) (r : Reply) → slice_get replies i ≡ Some r → r.host ≡ 0) → finished replies (suc host) n ≡ 0
+none_of_others [] host n all = refl
+none_of_others (r ∷ replies) host n all =
+    let first : r.host ≡ 0 = all 0 r refl in
+    let here : cond {A = ℕ} (is_reply_before (suc host) n r) 1 0 ≡ 0 = ap (λ (b : Bool). cond {A = ℕ} b 1 0) (not_before host n r first) in
+    let rest = none_of_others replies host n (λ i q at. all (suc i) q at) in
+    omega (arith, sum_by-cons (λ (q : Reply). cond {A = ℕ} (is_reply_before (suc host) n q) 1 0) r replies, here, rest)
+
+-- a world whose host is at the end of its list: so is every host of the scenario
+pub is_at_end : (w : FirstWorldValue) (h : FirstHolds w) → length (list_of w.scenario 0) ≤ w.position → IsAtEnd w.scenario w.log.events w.log.replies
+is_at_end w h ended zero = omega (arith, h.done (length w.log.events) (omega arith), h.within, ended)
+is_at_end w h ended (suc host) =
+    none_of_others w.log.replies host (length w.log.events) (λ i r at. (h.reached.replies_reach i r at).0)
+    ∙ sym (ap (λ (list : List Directive). length list) (no_list w.scenario h.form host))
+
+all_of_first : (events : List Event) → ((i : ℕ) (e : Event) → slice_get events i ≡ Some e → e.host ≡ 0) → AreOf 0 events
+all_of_first events all i d less =
+    let item = slice_get-get_or events i d less in all i (get_or events i d) item
+
+-- one host makes all turns
+pub is_in_order : (w : FirstWorldValue) (h : FirstHolds w) → InReplayOrder (length w.scenario.hosts) w.scenario.steps w.log.events
+is_in_order w h =
+    let events = w.log.events in
+    let whole : take (length events) events ≡ events = take-length events in
+    let rest : drop (length events) events ≡ [] = drop-length events in
+    let hosts : length w.scenario.hosts ≡ 1 = ap (λ (hosts : List HostPlan). length hosts) h.form.hosts in
+    let drained : InDrain 0 1 events = (
+      length events,
+      subst (AreOf 0) (sym whole) (all_of_first events (λ i e at. (h.reached.events_reach i e at).0)),
+      subst (NoneOf 0) (sym rest) (λ i d less. absurd (omega arith)),
+      rest,
+    ) in
+    let ordered : InReplayOrder 1 [] events = drained in
+    subst (λ (n : ℕ). InReplayOrder n w.scenario.steps events) (sym hosts) (subst (λ (steps : List (ℕ × ℕ)). InReplayOrder 1 steps events) (sym h.form.steps) ordered)
+
+-- what is told of Swaps counts the commits
+pub changes_counted : (w : FirstWorldValue) (h : FirstHolds w) → change_count w.log.events ≡ commits first_rules w.log.events
+changes_counted w h = h.taken ∙ h.whole.count

@@ -89,6 +89,7 @@ FirstHolds-spare w spare h = record {
   latest = h.latest;
   changed = h.changed;
   counted = h.counted;
+  taken = h.taken;
   whole = h.whole;
   legal = h.legal;
   image = h.image;

@@ -23,7 +23,7 @@ use Rattle.ds_dir.specs.declared.sub_block.Entry.{Entry}
 use Rattle.ds_world.specs.FirstRules.{NumberedFrom, entries_map, rooms_for, file_of, with_file, tree_of}
 use Rattle.ds_world.proofs.Pushes.{fold-push}
 
-abbrev object_is : Key → ℕ
+abbrev pub object_is : Key → ℕ
 object_is key = key.object
 
 abbrev pub files_in : FileTree → List Entry → FileTree

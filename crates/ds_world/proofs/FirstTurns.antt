@@ -33,7 +33,7 @@ use Rattle.ds_world.specs.declared.logs.Step.{Step}
 use Rattle.ds_world.specs.declared.logs.Step.TheVariants.{Local, Sent}
 use Rattle.ds_world.specs.declared.logs.Event.{Event}
 use Rattle.ds_world.specs.declared.logs.Reply.{Reply}
-use Rattle.ds_world.specs.Store.{store, after_step}
+use Rattle.ds_world.specs.Store.{store, after_step, has_taken, change_count}
 use Rattle.ds_world.specs.Commits.{commits, commits_next}
 use Rattle.ds_world.specs.Moments.{AtEveryMoment}
 use Rattle.ds_world.specs.History.{Change, HasPlace, Stands, IsGiven}
@@ -141,6 +141,11 @@ positive n = grind (arith, nat_tests)
 longer : (events : List Event) (e : Event) (n : ℕ) → length (events ++ e ∷ []) ≤ n → (length events ≤ n) × (length events < n)
 longer events e n le = (omega (arith, length-push events e), omega (arith, length-push events e))
 
+-- an event that takes nothing leaves the count of changes
+not_taken : (w : FirstWorldValue) (h : FirstHolds w) (e : Event) → has_taken e.step ≡ false → change_count (w.log.events ++ e ∷ []) ≡ length h.changes
+not_taken w h e none =
+    omega (arith, count_by-push (λ (x : Event). has_taken x.step) w.log.events e, ap (λ (b : Bool). cond {A = ℕ} b 1 0) none, h.taken)
+
 -- a registration
 pub turn-registered : (w : FirstWorldValue) (h : FirstHolds w) → w.host.stage ≡ Rest → slice_get (list_of w.scenario 0) w.position ≡ Some register
     → FirstHolds (stepped w (w.position + 1) (record { registered = true; stage = Rest }) w.device w.commits
@@ -168,6 +173,7 @@ turn-registered w h rest due =
       latest = h.latest;
       changed = h.changed;
       counted = h.counted;
+      taken = not_taken w h e refl;
       whole = whole-reply first_rules calls (events ++ e ∷ []) replies h.changes r (whole-event first_rules calls events replies h.changes e refl h.whole);
       legal = IsLegal-reply first_rules first_geom calls (events ++ e ∷ []) replies h.trees h.changes r
           (record { event = e; there = get-push_last events e; is_of = (refl, refl) })
@@ -211,6 +217,7 @@ turn-begun w h call rest under_way = record {
   latest = h.latest;
   changed = h.changed;
   counted = h.counted;
+  taken = h.taken;
   whole = h.whole;
   legal = h.legal;
   image = h.image;
@@ -259,6 +266,7 @@ turn-answered w h call x reading does =
       latest = h.latest;
       changed = h.changed;
       counted = h.counted;
+      taken = not_taken w h e refl;
       whole = whole-reply first_rules calls (events ++ e ∷ []) replies h.changes r (whole-event first_rules calls events replies h.changes e refl h.whole);
       legal = IsLegal-reply first_rules first_geom calls (events ++ e ∷ []) replies h.trees h.changes r
           (record { event = e; there = get-push_last events e; is_of = (refl, refl) })
@@ -336,6 +344,7 @@ turn-filling w h name fresh reading absent spelled =
       latest = h.latest;
       changed = h.changed;
       counted = h.counted;
+      taken = not_taken w h e refl;
       whole = whole-event first_rules calls events replies h.changes e refl h.whole;
       legal = IsLegal-event first_rules first_geom calls events replies h.trees h.changes e h.legal;
       image = same_image w h e refl refl;
@@ -450,6 +459,7 @@ committed w h name verify fresh k filling is free =
       latest = ap (λ (n : ℕ). slice_get (h.trees ++ u ∷ []) n) (length-push h.changes c ∙ sym last) ∙ get-push_last h.trees u;
       changed = omega (arith, length-push h.changes c, h.changed, len);
       counted = omega (arith, h.counted, len);
+      taken = omega (arith, count_by-push (λ (x : Event). has_taken x.step) events e, h.taken, length-push h.changes c);
       whole = whole-commit first_rules calls' events (replies ++ r ∷ []) h.changes e c takes (record {
         host = refl;
         directive = refl;

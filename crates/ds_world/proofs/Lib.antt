@@ -10,3 +10,4 @@ pub mod FirstSteps
 pub mod FirstTurns
 pub mod FirstStart
 pub mod FirstMoves
+pub mod FirstTreeBuilt

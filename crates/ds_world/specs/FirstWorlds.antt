@@ -31,7 +31,7 @@ use Rattle.ds_world.specs.declared.logs.Reply.{Reply}
 use Rattle.ds_world.specs.declared.moves.Moved.{Moved}
 use Rattle.ds_world.specs.declared.moves.Moved.TheVariants as moved
 use Rattle.ds_world.specs.LogValues.{LogValue}
-use Rattle.ds_world.specs.Store.{store}
+use Rattle.ds_world.specs.Store.{store, change_count}
 use Rattle.ds_world.specs.Moments.{AtEveryMoment}
 use Rattle.ds_world.specs.History.{Change, IsWholeOrNot, IsLegal}
 use Rattle.ds_world.specs.Headline.{StandsAfter}
@@ -156,6 +156,7 @@ pub record FirstHolds (w : FirstWorldValue) : Type 0 where
   pub latest : slice_get trees (length changes) ≡ Some (tree_of first_geom entries)
   pub changed : length changes ≡ length entries
   pub counted : w.commits ≡ length entries
+  pub taken : change_count w.log.events ≡ length changes
   pub whole : IsWholeOrNot first_rules (calls_of w.scenario []) w.log.events w.log.replies changes
   pub legal : IsLegal first_rules first_geom (calls_of w.scenario []) w.log.events w.log.replies trees changes
   pub image : AtEveryMoment (StandsAfter first_rules trees) w.log.events

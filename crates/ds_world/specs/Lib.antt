@@ -9,3 +9,4 @@ pub mod Scripts
 pub mod Follows
 pub mod FirstRules
 pub mod FirstWorlds
+pub mod FirstTrees

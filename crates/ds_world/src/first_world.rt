@@ -1,25 +1,30 @@
 //! The first world: one host, on a device of one sector.
-ghost use Rattle.std.specs.Prelude.{◌≡◌, ◌⊎◌, ◌<◌, ◌+◌, ◌∷◌, [], true, false, None, Some, length, IfOk, OnOk};
+ghost use Rattle.std.specs.Prelude.{◌≡◌, ◌⊎◌, ◌≤◌, ◌<◌, ◌+◌, ◌∷◌, [], true, false, None, Some, length, slice_get, IfOk, OnOk};
 ghost use Rattle.ds_base.specs.Names.{IsName};
 ghost use Rattle.ds_tree.specs.declared.calls.HostCallOf.TheVariants as host_calls;
 ghost use Rattle.ds_tree.specs.declared.scenarios.Directive.TheVariants as directives;
+ghost use Rattle.ds_tree.specs.Nodes.{FileTree};
 ghost use Rattle.ds_tree.specs.FirstForm.{IsFirstForm, IsFirstDirective, register, first_geom};
 ghost use Rattle.ds_host.specs.declared.first_host.RootCall.{RootCall};
 ghost use Rattle.ds_host.specs.declared.first_host.Stage.TheVariants as stages;
-ghost use Rattle.ds_host.specs.FirstConduct.{tree_call, due};
+ghost use Rattle.ds_host.specs.FirstConduct.{SpellsRooms, tree_call, due};
 ghost use Rattle.ds_world.specs.Headline.{Headline};
 ghost use Rattle.ds_world.specs.Scripts.{calls_of, list_of};
-ghost use Rattle.ds_world.specs.Follows.{Follows};
+ghost use Rattle.ds_world.specs.Store.{store, change_count};
+ghost use Rattle.ds_world.specs.Commits.{commits};
+ghost use Rattle.ds_world.specs.Follows.{Follows, IsAtEnd, InReplayOrder};
 ghost use Rattle.ds_world.specs.FirstRules.{first_rules, zero_sector};
 ghost use Rattle.ds_world.specs.FirstWorlds.{root_directive, name_of, place_of, IsSameButRoom, AddsEvent, Turns, AsksFor, IsDue, IsReading, IsSwapping};
 
+use crate::first_tree::tree_of_block;
 use crate::logs::{Event, Log, Reply, Step};
 use crate::moves::Moved;
 use ds_base::{Command, HostNo, Key, Next, NoMemory, Response, Sector, Word};
+use ds_dir::SubBlock;
 use ds_host::{FirstHost, HostAnswer};
 use ds_lun::MemLun;
 use ds_target::send;
-use ds_tree::{Call, CallOf, Directive, HostCall, HostCallOf, Scenario, Spoken};
+use ds_tree::{Call, CallOf, Directive, HostCall, HostCallOf, Scenario, Spoken, Tree};
 use std::alloc::Global;
 use std::marker::Model;
 
@@ -114,8 +119,31 @@ impl FirstWorld {
         ensures law { Headline first_rules first_geom (calls_of self.now.scenario result.now.replies)
             result.now.events result.now.replies }
         ensures follows { Follows first_rules.start self.now.scenario result.now.events result.now.replies }
+        ensures order { InReplayOrder (length self.now.scenario.hosts) self.now.scenario.steps result.now.events }
+        ensures end { length (list_of self.now.scenario 0) ≤ self.now.position
+            → IsAtEnd self.now.scenario result.now.events result.now.replies }
+        ensures counted { change_count result.now.events ≡ commits first_rules result.now.events }
     {
         &self.log
+    }
+
+    /// The file tree for which the device stands.
+    pub fn tree(&self, alloc: Global) -> Result<Tree, NoMemory>
+        ensures stands { IfOk result (λ t. first_rules.StandsFor (store first_rules.start self.now.log.events) t.tree) }
+        ensures only { IfOk result (λ t. (u : FileTree)
+            → first_rules.StandsFor (store first_rules.start self.now.log.events) u → u ≡ t.tree) }
+    {
+        let block = block_of(&self.device);
+        let tree = tree_of_block(alloc, &self.scenario.geom, &block)?;
+        Ok(tree)
+    }
+
+    /// The log, when the world is done with.
+    pub fn into_log(self) -> Log
+        ensures { result ≡ self.log }
+    {
+        let FirstWorld { log, .. } = self;
+        log
     }
 
     /// Begins the next directive, and goes on to its first command.
@@ -206,6 +234,18 @@ impl FirstWorld {
             Some(plan) => plan.list.as_slice(),
             None => &[],
         }
+    }
+}
+
+/// The sub-block of the root directory.
+fn block_of(device: &MemLun) -> SubBlock
+    requires { (sector : Sector) × ((block : SubBlock) × (slice_get device.now 0 ≡ Some sector)
+        × SpellsRooms sector block) }
+    ensures { (sector : Sector) × (slice_get device.now 0 ≡ Some sector) × SpellsRooms sector result }
+{
+    match SubBlock::decode(&device.sector(0)) {
+        Some(block) => block,
+        None => unreachable!(),
     }
 }
 

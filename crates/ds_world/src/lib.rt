@@ -1,6 +1,7 @@
 //! A device, its hosts, and the log of what happened.
 #![tactic(auto)]
 
+mod first_tree;
 mod first_world;
 mod logs;
 mod moves;
