@@ -1,6 +1,28 @@
+ghost use Rattle.std.specs.Prelude.{◌≡◌, ◌↔◌, IsTrue, IfOk};
+
 use crate::{Entry, SubBlock};
 use ds_base::{Key, Name, NodeKind, Sector};
+use std::alloc::AllocError;
 use std::test::Fail;
+
+// That `==` and `clone` say what callers take them to say.
+fn are_same_entries(a: &Entry, b: &Entry) -> bool
+    ensures { IsTrue result ↔ (a.now ≡ b.now) }
+{
+    *a == *b
+}
+
+fn are_same_blocks(a: &SubBlock, b: &SubBlock) -> bool
+    ensures { IsTrue result ↔ (a.now ≡ b.now) }
+{
+    *a == *b
+}
+
+fn copy_of_block(block: &SubBlock) -> Result<SubBlock, AllocError>
+    ensures { IfOk result (λ copy. copy ≡ block.now) }
+{
+    block.clone()
+}
 
 /// A file `a.txt`, a free room, a file `x` with the greatest birth, and a directory `.x` with the greatest object.
 fn good_bytes() -> [u8; 512] {
