@@ -1,4 +1,5 @@
 pub mod Fronts
+pub mod KindCodes
 pub mod Little
 pub mod Readings
 pub mod SameFields

@@ -1,6 +1,9 @@
 -- What layers above rest on of sub-blocks and their sectors.
-use Rattle.std.proofs.Common.{◌≡◌, ℕ, List, [], ◌∷◌, get_or, replicate, slice_get, Option, Some, None, Contains, refl, sym, ap, ◌∙◌}
+use Rattle.std.proofs.Common.{Bool, Decides, ◌≡◌, ℕ, List, [], ◌∷◌, get_or, replicate, slice_get, Option, Some, None, Contains, refl, sym, ap, ◌∙◌}
 use Rattle.std.proofs.lemmas.List.Elements.{All-cons, All-nil, All-contains}
+use Rattle.std.proofs.lemmas.Slice.Eq.{slice_eq-Decides}
+use Rattle.std.specs.Cmp.Lexicographic.{pointwise}
+use Rattle.std.specs.Option.{option_eq}
 use Rattle.std.proofs.lemmas.Option.{get_or_from_slice_get, slice_get_within}
 use Rattle.ds_bytes.specs.Fields.{zeros}
 use Rattle.ds_dir.specs.SubBlock.{IsEntry, IsRoom, IsSubBlock, room_bytes, sub_bytes}
@@ -46,3 +49,18 @@ pub IsEntry-room : (b : SubBlock) (e : Entry) (i : ℕ) → IsSubBlock b → sli
 IsEntry-room b e i h found =
     let item : get_or b.rooms i None ≡ Some e = get_or_from_slice_get b.rooms i (Some e) None found in
     rw item at (h.are_rooms i None (slice_get_within b.rooms i (Some e) found))
+
+option_eq-Decides : {X : Type 0} {E : X → X → Bool} → ((a b : X) → Decides (E a b) (a ≡ b)) → (o p : Option X) → Decides (option_eq E o p) (o ≡ p)
+option_eq-Decides each None None = (λ e. refl, λ e. refl)
+option_eq-Decides each None (Some y) = (λ e. absurd (cc), λ e. absurd (cc))
+option_eq-Decides each (Some x) None = (λ e. absurd (cc), λ e. absurd (cc))
+option_eq-Decides each (Some x) (Some y) =
+    let item = each x y in
+    (λ e. ap Some (item.0 e), λ e. item.1 (let same : x ≡ y = cc in same))
+
+-- `==` of sub-blocks, where `==` of entries decides `≡`
+pub sub_eq : {E : Entry → Entry → Bool} → ((a b : Entry) → Decides (E a b) (a ≡ b)) → (a b : SubBlock) (r : Bool) → r ≡ pointwise (option_eq E) a.rooms b.rooms → Decides r (a ≡ b)
+sub_eq each a b r e =
+    let rooms = slice_eq-Decides (option_eq-Decides each) a.rooms b.rooms r e in
+    let made : List (Option Entry) → SubBlock = λ rooms. record { rooms = rooms } in
+    (λ h. ap made (rooms.0 h), λ h. rooms.1 (ap (λ (s : SubBlock). s.rooms) h))

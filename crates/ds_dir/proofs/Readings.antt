@@ -1,20 +1,20 @@
 -- Every 512 bytes have a reading as a sub-block.
-use Rattle.std.proofs.Common.{◌≡◌, ℕ, zero, suc, ◌+◌, ◌^◌, ◌≤◌, ◌⊎◌, inl, inr, List, [], ◌∷◌, ◌++◌, length, take, drop, Option, Some, None, refl, sym, ap, ◌∙◌, arith}
+use Rattle.std.proofs.Common.{◌≡◌, ℕ, ◌+◌, ◌^◌, ◌≤◌, inl, List, [], ◌∷◌, ◌++◌, length, take, drop, Option, Some, None, refl, sym, ap, ◌∙◌, arith}
 use Rattle.std.proofs.lemmas.List.{length-take-le, length-drop}
 use Rattle.std.specs.List.{list_all}
 use Rattle.ds_base.specs.Decoding.{IsDecoded}
 use Rattle.ds_base.specs.Names.{IsName, is_name_byte}
 use Rattle.ds_base.specs.declared.names.NodeKind.{NodeKind}
-use Rattle.ds_base.specs.declared.names.NodeKind.TheVariants.{File, Dir}
 use Rattle.ds_bytes.specs.Fields.{front, AllBelow}
 use Rattle.ds_bytes.proofs.Fronts.{front_none}
 use Rattle.ds_bytes.proofs.Readings.{Decided, decided_eq, decided_le, decided_lt, decided_bytes, decided_true, decided_not, decided_all, decided_both, decided_same, reading_of, CanRead, number_at, piece_at, AllBelow-drop, AllBelow-take}
-use Rattle.ds_dir.specs.SubBlock.{IsEntry, IsRoom, IsSubBlock, kind_code, room_bytes, sub_bytes}
+use Rattle.ds_bytes.specs.NodeKinds.{kind_of_code}
+use Rattle.ds_dir.specs.SubBlock.{IsEntry, IsRoom, IsSubBlock, room_bytes, sub_bytes}
 use Rattle.ds_dir.specs.declared.room.RoomParts.{RoomParts}
 use Rattle.ds_dir.specs.declared.sub_block.Entry.{Entry}
 use Rattle.ds_dir.specs.declared.sub_block.SubBlock.{SubBlock}
 use Rattle.ds_dir.proofs.FourRooms.{four_rooms, four_same}
-use Rattle.ds_dir.proofs.Rooms.{IsRead, Holds, named_free, named_used, same_entry}
+use Rattle.ds_dir.proofs.Rooms.{IsRead, kind_in, kind_named, named_free, named_used, same_entry}
 
 -- what is read of a room, field by field
 record PartsOf (bytes : List ℕ) : Type 0 where
@@ -43,24 +43,22 @@ parts_of bytes len below =
     }
 
 -- the room that was read, where its kind is one
-abbrev room_of : ℕ → RoomParts → Option (Option Entry)
-room_of zero p = Some None
-room_of (suc zero) p = Some (Some (record { name = take p.length p.name; key = record { object = p.object; birth = p.birth }; kind = File }))
-room_of (suc (suc zero)) p = Some (Some (record { name = take p.length p.name; key = record { object = p.object; birth = p.birth }; kind = Dir }))
-room_of (suc (suc (suc n))) p = None
+abbrev room_of : Option (Option NodeKind) → RoomParts → Option (Option Entry)
+room_of None p = None
+room_of (Some None) p = Some None
+room_of (Some (Some kind)) p =
+    Some (Some (record { name = take p.length p.name; key = record { object = p.object; birth = p.birth }; kind = kind }))
 
-room_of_code : (k : NodeKind) (p : RoomParts) (e : Entry) → k ≡ e.kind → Holds p e → room_of (kind_code k) p ≡ Some (Some e)
-room_of_code File p e is h = ap Some (ap Some (same_entry e (take p.length p.name) p.object p.birth File h.same_name h.same_object h.same_birth is))
-room_of_code Dir p e is h = ap Some (ap Some (same_entry e (take p.length p.name) p.object p.birth Dir h.same_name h.same_object h.same_birth is))
+room_of_kind : (bytes : List ℕ) (p : RoomParts) (room : Option Entry) (kind : Option NodeKind) → IsRead bytes p → IsRoom room → bytes ≡ room_bytes room → kind_in room ≡ kind → room_of (Some kind) p ≡ Some room
+room_of_kind bytes p room None r h b e = ap Some (sym (named_free room e))
+room_of_kind bytes p room (Some kind) r h b e =
+    let u = named_used bytes p room kind r e h b in
+    let held = u.holds in
+    ap Some (ap Some (same_entry u.entry (take p.length p.name) p.object p.birth kind held.same_name held.same_object held.same_birth u.has_kind) ∙ sym u.is_some)
 
-room_of_entry : (p : RoomParts) (e : Entry) → Holds p e → room_of p.kind p ≡ Some (Some e)
-room_of_entry p e h = ap (λ k. room_of k p) h.same_kind ∙ room_of_code e.kind p e refl h
-
-only_room_is : (bytes : List ℕ) (p : RoomParts) (room : Option Entry) → IsRead bytes p → (p.kind ≡ 0) ⊎ (p.kind ≡ 0 → ⊥) → IsRoom room → bytes ≡ room_bytes room → room_of p.kind p ≡ Some room
-only_room_is bytes p room r (inl free) h b = ap (λ k. room_of k p) free ∙ ap Some (sym (named_free bytes p room r free h b))
-only_room_is bytes p room r (inr used) h b =
-    let u = named_used bytes p room r used h b in
-    room_of_entry p u.entry u.holds ∙ ap Some (sym u.is_some)
+only_room_is : (bytes : List ℕ) (p : RoomParts) (room : Option Entry) → IsRead bytes p → IsRoom room → bytes ≡ room_bytes room → room_of (kind_of_code p.kind) p ≡ Some room
+only_room_is bytes p room r h b =
+    ap (λ k. room_of k p) (kind_named bytes p room r h b) ∙ room_of_kind bytes p room (kind_in room) r h b refl
 
 -- the only room that the bytes can spell
 record OnlyRoom (bytes : List ℕ) : Type 0 where
@@ -71,7 +69,7 @@ only_room : (bytes : List ℕ) → length bytes ≡ 128 → AllBelow 256 bytes �
 only_room bytes len below =
     let read = parts_of bytes len below in
     let p : RoomParts = read.parts in
-    record { room = room_of p.kind p; only = λ r h b. only_room_is bytes p r read.is_read (decided_eq p.kind 0) h b }
+    record { room = room_of (kind_of_code p.kind) p; only = λ r h b. only_room_is bytes p r read.is_read h b }
 
 room_at : (at : ℕ) (bytes : List ℕ) → at + 128 ≤ length bytes → AllBelow 256 bytes → OnlyRoom (take 128 (drop at bytes))
 room_at at bytes len below =

@@ -2,9 +2,8 @@
 use Rattle.std.specs.Prelude.{◌≡◌, ℕ, ◌-◌, ◌^◌, ◌<◌, ◌≤◌, List, [], ◌∷◌, ◌++◌, length, Option, Some, None, All}
 use Rattle.std.specs.List.{flat_map}
 use Rattle.ds_base.specs.Names.{IsName}
-use Rattle.ds_base.specs.declared.names.NodeKind.{NodeKind}
-use Rattle.ds_base.specs.declared.names.NodeKind.TheVariants.{File, Dir}
 use Rattle.ds_bytes.specs.Fields.{zeros, Field, Num, Raw, spelled}
+use Rattle.ds_bytes.specs.NodeKinds.{kind_code}
 use Rattle.ds_dir.specs.declared.sub_block.Entry.{Entry}
 use Rattle.ds_dir.specs.declared.sub_block.SubBlock.{SubBlock}
 
@@ -25,15 +24,10 @@ pub record IsSubBlock (b : SubBlock) : Type 0 where
   pub four : length b.rooms ≡ 4
   pub are_rooms : All IsRoom b.rooms
 
--- the byte that says what an entry stands for
-abbrev pub kind_code : NodeKind → ℕ
-kind_code File = 1
-kind_code Dir = 2
-
 -- the fields of a used room: its kind, the length of its name, two zeros, the object, the birth, and the name with zeros
 abbrev pub entry_fields : Entry → List Field
 entry_fields e =
-    Num 1 (kind_code e.kind) ∷ Num 1 (length e.name) ∷ Raw 2 (zeros 2) ∷ Num 4 e.key.object ∷ Num 8 e.key.birth
+    Num 1 (kind_code (Some e.kind)) ∷ Num 1 (length e.name) ∷ Raw 2 (zeros 2) ∷ Num 4 e.key.object ∷ Num 8 e.key.birth
     ∷ Raw 112 (e.name ++ zeros (112 - length e.name)) ∷ []
 
 -- the 128 bytes of a room: a free one is all zero

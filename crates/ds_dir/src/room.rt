@@ -2,15 +2,14 @@
 ghost use Rattle.std.specs.Prelude.{◌≡◌, ◌+◌, ◌≤◌, ◌↔◌, ◌++◌, Option, Some, length, take, IsTrue};
 ghost use Rattle.ds_base.specs.Names.{IsName};
 ghost use Rattle.ds_base.specs.declared.names.Name.{Name};
-ghost use Rattle.ds_base.specs.declared.names.NodeKind.{NodeKind};
 ghost use Rattle.ds_bytes.specs.Fields.{front, spelled, FieldsFit};
 ghost use Rattle.ds_dir.specs.declared.sub_block.Entry.{Entry};
-ghost use Rattle.ds_dir.specs.SubBlock.{room_bytes, kind_code, IsEntry, IsRoom};
+ghost use Rattle.ds_dir.specs.SubBlock.{room_bytes, IsEntry, IsRoom};
 ghost use Rattle.ds_dir.specs.RoomParts.{part_fields};
 
 use crate::sub_block::Entry;
-use ds_base::{Key, Name, NodeKind};
-use ds_bytes::{SectorWriter, bytes_at, u8_at, u32_at, u64_at};
+use ds_base::{Key, Name};
+use ds_bytes::{SectorWriter, bytes_at, code_of_kind, kind_of_code, u8_at, u32_at, u64_at};
 
 /// What a room holds if it is used, as it is read.
 #[derive(Drop)]
@@ -49,26 +48,15 @@ pub fn room_named(bytes: &[u8]) -> Option<Option<Entry>>
     ensures { (room : Option Entry) → IsRoom room → bytes.now ≡ room_bytes room → result ≡ Some room }
 {
     let parts = RoomParts::read(bytes);
-    if parts.kind == 0 {
+    let Some(kind) = kind_of_code(parts.kind)? else {
         return Some(None);
-    }
-    let kind = kind_named(parts.kind)?;
+    };
     let name = name_named(&parts.name, parts.length)?;
     let key = Key {
         object: parts.object,
         birth: parts.birth,
     };
     Some(Some(Entry { name, key, kind }))
-}
-
-fn kind_named(code: u8) -> Option<NodeKind>
-    ensures { (kind : NodeKind) → code ≡ kind_code kind → result ≡ Some kind }
-{
-    match code {
-        1 => Some(NodeKind::File),
-        2 => Some(NodeKind::Dir),
-        _ => None,
-    }
 }
 
 fn name_named(bytes: &[u8], count: u8) -> Option<Name>
@@ -79,15 +67,6 @@ fn name_named(bytes: &[u8], count: u8) -> Option<Name>
         return None;
     }
     Name::from_bytes(&bytes[..count])
-}
-
-fn code_of(kind: NodeKind) -> u8
-    ensures { result ≡ kind_code kind }
-{
-    match kind {
-        NodeKind::File => 1,
-        NodeKind::Dir => 2,
-    }
 }
 
 pub fn put_room(writer: &mut SectorWriter, room: &Option<Entry>)
@@ -109,7 +88,7 @@ fn put_entry(writer: &mut SectorWriter, entry: &Entry)
     ensures len { length writer.new ≡ length writer.old + 128 }
 {
     let name = entry.name.bytes();
-    writer.u8(code_of(entry.kind));
+    writer.u8(code_of_kind(Some(entry.kind)));
     writer.u8(name.len() as u8);
     writer.zeros(2);
     writer.u32(entry.key.object);

@@ -1,13 +1,41 @@
+ghost use Rattle.std.specs.Prelude.{◌≡◌, ◌↔◌, IsTrue, IfOk};
+
 use crate::{Entry, SubBlock};
 use ds_base::{Key, Name, NodeKind, Sector};
+use std::alloc::AllocError;
 use std::test::Fail;
+
+// That `==` and `clone` say what callers take them to say.
+fn are_same_entries(a: &Entry, b: &Entry) -> bool
+    ensures { IsTrue result ↔ (a.now ≡ b.now) }
+{
+    *a == *b
+}
+
+fn are_same_blocks(a: &SubBlock, b: &SubBlock) -> bool
+    ensures { IsTrue result ↔ (a.now ≡ b.now) }
+{
+    *a == *b
+}
+
+fn copy_of_block(block: &SubBlock) -> Result<SubBlock, AllocError>
+    ensures { IfOk result (λ copy. copy ≡ block.now) }
+{
+    block.clone()
+}
 
 /// A file `a.txt`, a free room, a file `x` with the greatest birth, and a directory `.x` with the greatest object.
 fn good_bytes() -> [u8; 512] {
     let mut bytes = [0; 512];
-    bytes[..21].copy_from_slice(b"\x01\x05\x00\x00\x04\x03\x02\x01\x08\x07\x06\x05\x04\x03\x02\x01a.txt");
-    bytes[256..273].copy_from_slice(b"\x01\x01\x00\x00\x09\x00\x00\x00\x00\x00\x00\x00\x00\x00\x00\x40x");
-    bytes[384..402].copy_from_slice(b"\x02\x02\x00\x00\xff\xff\xff\xff\x01\x00\x00\x00\x00\x00\x00\x00.x");
+    bytes[..21].copy_from_slice(
+        b"\x01\x05\x00\x00\x04\x03\x02\x01\x08\x07\x06\x05\x04\x03\x02\x01a.txt",
+    );
+    bytes[256..273].copy_from_slice(
+        b"\x01\x01\x00\x00\x09\x00\x00\x00\x00\x00\x00\x00\x00\x00\x00\x40x",
+    );
+    bytes[384..402].copy_from_slice(
+        b"\x02\x02\x00\x00\xff\xff\xff\xff\x01\x00\x00\x00\x00\x00\x00\x00.x",
+    );
     bytes
 }
 

@@ -1,18 +1,13 @@
 -- What layers above rest on of bodies and their sectors.
-use Rattle.std.proofs.Common.{◌≡◌, ℕ, List, [], ◌∷◌, length, Option, Some, None, refl, sym, ap, ◌∙◌, arith}
-use Rattle.ds_base.specs.declared.names.NodeKind.{NodeKind}
-use Rattle.ds_bytes.specs.Fields.{front, spelled, FieldsFit}
+use Rattle.std.proofs.Common.{◌≡◌, refl}
+use Rattle.ds_bytes.specs.Fields.{spelled}
 use Rattle.ds_bytes.proofs.Fronts.{front-padded}
 use Rattle.ds_bytes.proofs.SameFields.{length-spelled, read_same}
-use Rattle.ds_fd.specs.Body.{kind_code, HasWidths, IsBody, body_fields, body_bytes}
-use Rattle.ds_fd.specs.BodyParts.{kind_of_code}
+use Rattle.ds_bytes.specs.NodeKinds.{kind_code}
+use Rattle.ds_bytes.proofs.KindCodes.{kind_code_same}
+use Rattle.ds_fd.specs.Body.{IsBody, body_fields, body_bytes}
 use Rattle.ds_fd.specs.declared.body.Body.{Body}
-use Rattle.ds_fd.proofs.Named.{body_fields_fit, kind_again}
-
-kind_same : (k l : Option NodeKind) → kind_code k ≡ kind_code l → k ≡ l
-kind_same k l e =
-    let some : Some k ≡ Some l = sym (kind_again k) ∙ ap kind_of_code e ∙ kind_again l in
-    cc
+use Rattle.ds_fd.proofs.Named.{body_fields_fit}
 
 same_body : (a b : Body) → a.object ≡ b.object → a.kind ≡ b.kind → a.links ≡ b.links → a.birth ≡ b.birth → a.count ≡ b.count → a.addresses ≡ b.addresses → a ≡ b
 same_body a b p q r s t u =
@@ -28,7 +23,7 @@ body_same a b h k e =
     let same : body_fields a ≡ body_fields b =
     read_same 416 (body_fields a) (body_fields b) (body_bytes a) refl refl (body_fields_fit a h.widths) (body_fields_fit b k.widths) read e in
     let code : kind_code a.kind ≡ kind_code b.kind = cc in
-    let kind : a.kind ≡ b.kind = kind_same a.kind b.kind code in
+    let kind : a.kind ≡ b.kind = kind_code_same a.kind b.kind code in
     let object : a.object ≡ b.object = cc in
     let links : a.links ≡ b.links = cc in
     let birth : a.birth ≡ b.birth = cc in

@@ -1,7 +1,7 @@
 -- Every 512 bytes have a reading as a body.
-use Rattle.std.proofs.Common.{◌≡◌, ℕ, ◌+◌, ◌-◌, ◌^◌, ◌<◌, ◌≤◌, List, ◌++◌, length, drop, Option, refl, sym, ap, ◌∙◌, arith}
+use Rattle.std.proofs.Common.{◌≡◌, ℕ, ◌+◌, ◌-◌, ◌^◌, ◌≤◌, List, ◌++◌, length, drop, Option, refl, arith}
 use Rattle.ds_base.specs.Decoding.{IsDecoded}
-use Rattle.ds_bytes.specs.Fields.{little, littles, zeros, front, spelled, AllBelow, FieldsFit}
+use Rattle.ds_bytes.specs.Fields.{zeros, front, spelled, AllBelow, FieldsFit}
 use Rattle.ds_bytes.proofs.Fronts.{front_none}
 use Rattle.ds_bytes.proofs.Readings.{Decided, decided_eq, decided_le, decided_lt, decided_bytes, decided_below, decided_both, decided_same, reading_of, CanRead, number_at, numbers_at, piece_at}
 use Rattle.ds_fd.specs.Body.{links_of, most_count, least_birth, addresses_used, HasWidths, InRanges, IsBody, body_bytes}

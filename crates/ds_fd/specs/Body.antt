@@ -3,13 +3,8 @@ use Rattle.std.specs.Prelude.{◌≡◌, ℕ, ◌+◌, ◌-◌, ◌/◌, ◌^◌
 use Rattle.ds_base.specs.declared.names.NodeKind.{NodeKind}
 use Rattle.ds_base.specs.declared.names.NodeKind.TheVariants.{File, Dir}
 use Rattle.ds_bytes.specs.Fields.{zeros, AllBelow, Field, Num, Raw, Nums, sector_of_fields}
+use Rattle.ds_bytes.specs.NodeKinds.{kind_code}
 use Rattle.ds_fd.specs.declared.body.Body.{Body}
-
--- the byte that says what a descriptor is: not in use, a file or a directory
-abbrev pub kind_code : Option NodeKind → ℕ
-kind_code None = 0
-kind_code (Some File) = 1
-kind_code (Some Dir) = 2
 
 -- a file has one link, and nothing else has any
 abbrev pub links_of : Option NodeKind → ℕ

@@ -1,8 +1,7 @@
 -- The fields of a body as they are read.
-use Rattle.std.specs.Prelude.{ℕ, zero, suc, List, [], ◌∷◌, Option, Some, None, option_map}
-use Rattle.ds_base.specs.declared.names.NodeKind.{NodeKind}
-use Rattle.ds_base.specs.declared.names.NodeKind.TheVariants.{File, Dir}
+use Rattle.std.specs.Prelude.{List, [], ◌∷◌, Option, option_map}
 use Rattle.ds_bytes.specs.Fields.{Field, Num, Raw, Nums}
+use Rattle.ds_bytes.specs.NodeKinds.{kind_of_code}
 use Rattle.ds_fd.specs.declared.body.Body.{Body}
 use Rattle.ds_fd.specs.declared.parts.BodyParts.{BodyParts}
 
@@ -10,13 +9,6 @@ abbrev pub part_fields : BodyParts → List Field
 part_fields p =
     Raw 4 p.magic ∷ Num 1 p.kind ∷ Raw 3 p.gap ∷ Num 4 p.object ∷ Num 4 p.links ∷ Num 8 p.birth ∷ Num 4 p.count
     ∷ Raw 4 p.hole ∷ Nums 4 96 p.addresses ∷ []
-
--- the kind that a byte says, if it says one
-abbrev pub kind_of_code : ℕ → Option (Option NodeKind)
-kind_of_code zero = Some None
-kind_of_code (suc zero) = Some (Some File)
-kind_of_code (suc (suc zero)) = Some (Some Dir)
-kind_of_code (suc (suc (suc n))) = None
 
 -- the body with these fields, if there is such a kind
 abbrev pub body_of : BodyParts → Option Body

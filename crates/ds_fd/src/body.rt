@@ -2,11 +2,11 @@
 ghost use Rattle.std.specs.Prelude.{◌≡◌, ◌≤◌, ◌↔◌, ℕ, Option, Some, IfSome, IsTrue};
 ghost use Rattle.ds_base.specs.Decoding.{IsDecoded};
 ghost use Rattle.ds_fd.specs.declared.body.Body.{Body};
-ghost use Rattle.ds_fd.specs.Body.{body_bytes, kind_code, links_of, most_count, least_birth, addresses_used, HasWidths, InRanges, IsBody};
+ghost use Rattle.ds_fd.specs.Body.{body_bytes, links_of, most_count, least_birth, addresses_used, HasWidths, InRanges, IsBody};
 
 use crate::parts::BodyParts;
 use ds_base::{NodeKind, ObjNo, Sector};
-use ds_bytes::{SectorWriter, is_zero_from};
+use ds_bytes::{SectorWriter, code_of_kind, is_zero_from};
 
 /// What a descriptor holds: its kind (`None` where it is not in use), its links, its birth, and the count and the
 /// addresses of its sub-blocks or blocks.
@@ -49,7 +49,7 @@ impl Body {
     {
         let mut writer = SectorWriter::new();
         writer.bytes(b"DSFD");
-        writer.u8(code_of(self.kind));
+        writer.u8(code_of_kind(self.kind));
         writer.zeros(3);
         writer.u32(self.object);
         writer.u32(self.links);
@@ -82,16 +82,6 @@ impl Body {
         ensures widths { IfSome result HasWidths }
     {
         BodyParts::read(sector).body()
-    }
-}
-
-fn code_of(kind: Option<NodeKind>) -> u8
-    ensures { result ≡ kind_code kind }
-{
-    match kind {
-        None => 0,
-        Some(NodeKind::File) => 1,
-        Some(NodeKind::Dir) => 2,
     }
 }
 

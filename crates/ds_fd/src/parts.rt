@@ -4,8 +4,8 @@ ghost use Rattle.ds_bytes.specs.Fields.{front, spelled, FieldsFit};
 ghost use Rattle.ds_fd.specs.BodyParts.{part_fields, body_of};
 
 use crate::body::Body;
-use ds_base::{NodeKind, Sector};
-use ds_bytes::{bytes_at, u8_at, u32_at, u32s_at, u64_at};
+use ds_base::Sector;
+use ds_bytes::{bytes_at, kind_of_code, u8_at, u32_at, u32s_at, u64_at};
 
 /// What a sector holds if it spells a body.
 #[derive(Drop)]
@@ -50,12 +50,7 @@ impl BodyParts {
     pub fn body(self) -> Option<Body>
         ensures { result ≡ body_of self }
     {
-        let kind = match self.kind {
-            0 => None,
-            1 => Some(NodeKind::File),
-            2 => Some(NodeKind::Dir),
-            _ => return None,
-        };
+        let kind = kind_of_code(self.kind)?;
         let addresses = self.addresses;
         Some(Body {
             object: self.object,

@@ -1,4 +1,4 @@
-use Rattle.std.proofs.Common.{◌≡◌, ◌∙◌}
+use Rattle.std.proofs.Common.{◌∙◌}
 use Rattle.ds_fd.proofs.Named.{names_body}
 use Rattle.ds_fd.proofs.body.Body.named.Goals as goal
 
