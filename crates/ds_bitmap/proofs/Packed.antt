@@ -90,7 +90,7 @@ kind_fits Sb = omega arith
 kind_fits Pb = omega arith
 kind_fits Fb = omega arith
 
-kind_same : (a b : Kind) → kind_number a ≡ kind_number b → a ≡ b
+pub kind_same : (a b : Kind) → kind_number a ≡ kind_number b → a ≡ b
 kind_same Fd Fd e = refl
 kind_same Fd Sb e = absurd (cc)
 kind_same Fd Pb e = absurd (cc)

@@ -4,6 +4,7 @@ use Rattle.std.proofs.lemmas.List.{length-append, take_at}
 use Rattle.ds_bytes.specs.Fields.{zeros, front, spelled, FieldsFit, AllBelow}
 use Rattle.ds_bytes.proofs.Fronts.{front-padded}
 use Rattle.ds_bytes.proofs.Little.{length-zeros}
+use Rattle.ds_bytes.proofs.Readings.{AllBelow-take}
 use Rattle.ds_bytes.proofs.SameFields.{length-spelled, read_same}
 use Rattle.ds_jrnl.specs.Index.{HasWidths, InRanges, IsIndex, index_fields, index_bytes}
 use Rattle.ds_jrnl.specs.IndexParts.{part_fields, index_of}
@@ -20,12 +21,6 @@ below_append limit [] ys h k = k
 below_append limit (x ∷ xs) ys h k =
     λ i. elim i as (λ j. slice_index (x ∷ (xs ++ ys)) j < limit) [ zero ↦ h 0 | suc j ↦ below_append limit xs ys (λ m. h (suc m)) k j ]
 
-below_take : (limit n : ℕ) (xs : List ℕ) → 0 < limit → AllBelow limit xs → AllBelow limit (take n xs)
-below_take limit zero xs h all = λ i. h
-below_take limit (suc n) [] h all = λ i. h
-below_take limit (suc n) (x ∷ xs) h all =
-    λ i. elim i as (λ k. slice_index (x ∷ take n xs) k < limit) [ zero ↦ all 0 | suc k ↦ below_take limit n xs h (λ j. all (suc j)) k ]
-
 pub index_fields_fit : (x : Index) → IsIndex x → FieldsFit (index_fields x)
 index_fields_fit x h =
     let targets = x.targets.items in
@@ -40,7 +35,7 @@ widths_of p fits = record {
   slot_fits = fits.1.0;
   generation_fits = fits.1.1.1.1.0;
   txn_fits = fits.1.1.1.1.1.0;
-  targets_fit = below_take (2 ^ 32) p.count p.words (omega arith) fits.1.1.1.1.1.1.0.1 }
+  targets_fit = AllBelow-take (2 ^ 32) p.count p.words (omega arith) fits.1.1.1.1.1.1.0.1 }
 
 same_index : (a b : Index) → a.slot ≡ b.slot → a.generation ≡ b.generation → a.txn ≡ b.txn → a.targets.items ≡ b.targets.items → a ≡ b
 same_index a b p q r s =
