@@ -1,5 +1,5 @@
 -- Every 512 bytes have a reading as a bitmap of a cluster.
-use Rattle.std.proofs.Common.{◌≡◌, ℕ, ◌+◌, ◌<◌, ◌≤◌, Bool, false, List, ◌++◌, length, map, take, Option, Some, None, refl, sym, ap, ◌∙◌, arith}
+use Rattle.std.proofs.Common.{◌≡◌, ℕ, ◌+◌, ◌<◌, ◌≤◌, Bool, false, List, length, map, take, Option, Some, refl, sym, ap, arith}
 use Rattle.std.specs.List.{range_with_len}
 use Rattle.std.proofs.lemmas.List.FromFn.{get_or-map-range_with_len, length-map-range_with_len}
 use Rattle.ds_base.specs.Decoding.{IsDecoded}
@@ -33,7 +33,8 @@ parts_of bytes len below =
     record {
       parts = record { magic = magic.items; kind = kind.value; cluster = cluster.value; items = items.value; gap = gap.items; bits = bits.items };
       read = rw (bits.read, gap.read, items.read, cluster.read, kind.read, magic.read, front_none bytes) refl;
-      fits = (magic.size, (kind.below, (cluster.below, (items.below, (gap.size, (bits.size, tt)))))) }
+      fits = (magic.size, (kind.below, (cluster.below, (items.below, (gap.size, (bits.size, tt))))));
+    }
 
 decided_kind : (a b : Kind) → Decided (a ≡ b)
 decided_kind a b = decided_same (kind_same a b) (ap kind_number) (decided_eq (kind_number a) (kind_number b))
@@ -41,9 +42,9 @@ decided_kind a b = decided_same (kind_same a b) (ap kind_number) (decided_eq (ki
 decided_bits : (g : Geom) (kind : Kind) (cluster : ℕ) (b : Bitmap) → Decided (IsBits g kind cluster b)
 decided_bits g kind cluster b =
     decided_same
-      (λ d. record { same_kind = d.0; same_cluster = d.1.0; count = d.1.1 })
-      (λ h. (h.same_kind, (h.same_cluster, h.count)))
-      (decided_both (decided_kind b.kind kind) (decided_both (decided_eq b.cluster cluster) (decided_eq (length b.used) (per_cluster g kind))))
+    (λ d. record { same_kind = d.0; same_cluster = d.1.0; count = d.1.1 })
+    (λ h. (h.same_kind, (h.same_cluster, h.count)))
+    (decided_both (decided_kind b.kind kind) (decided_both (decided_eq b.cluster cluster) (decided_eq (length b.used) (per_cluster g kind))))
 
 -- the bitmap of a cluster with these bits
 abbrev bits_read : Geom → Kind → ℕ → List ℕ → Bitmap
@@ -58,12 +59,12 @@ bits_named g kind cluster bytes p b is small fits read h e =
     let bits = names_bits bytes p b fits below few read e in
     let all : List Bool = map (bit_at p.bits) (range_with_len 0 3840) in
     same_bitmap (bits_read g kind cluster p.bits) b (sym h.same_kind) (sym h.same_cluster)
-      (unpacked_same p.bits b.used (map (bit_at p.bits) (range_with_len 0 3840)) (per_cluster g kind) bits h.count most (length-map-range_with_len (bit_at p.bits) 0 3840)
-        (λ i l. get_or-map-range_with_len (bit_at p.bits) 0 3840 i i false l (omega arith)))
+    (unpacked_same p.bits b.used (map (bit_at p.bits) (range_with_len 0 3840)) (per_cluster g kind) bits h.count most (length-map-range_with_len (bit_at p.bits) 0 3840)
+    (λ i l. get_or-map-range_with_len (bit_at p.bits) 0 3840 i i false l (omega arith)))
 
 pub bits_reading : (g : Geom) (kind : Kind) (cluster : ℕ) (bytes : List ℕ) → IsGeom g → cluster < 256 → length bytes ≡ 512 → AllBelow 256 bytes → (r : Option Bitmap) × IsDecoded r (λ b. IsBits g kind cluster b × (bytes ≡ bits_bytes b))
 bits_reading g kind cluster bytes is small len below =
     let read = parts_of bytes len below in
     reading_of (Some (bits_read g kind cluster read.parts.bits)) (λ b. IsBits g kind cluster b × (bytes ≡ bits_bytes b))
-      (λ b d. ap Some (bits_named g kind cluster bytes read.parts b is small read.fits read.read d.0 d.1))
-      (λ b. decided_both (decided_bits g kind cluster b) (decided_bytes bytes (bits_bytes b)))
+    (λ b d. ap Some (bits_named g kind cluster bytes read.parts b is small read.fits read.read d.0 d.1))
+    (λ b. decided_both (decided_bits g kind cluster b) (decided_bytes bytes (bits_bytes b)))

@@ -1,5 +1,5 @@
 -- Every 512 bytes have a reading as an index.
-use Rattle.std.proofs.Common.{◌≡◌, ◌≢◌, ℕ, zero, suc, ◌+◌, ◌^◌, ◌<◌, ◌≤◌, inl, inr, List, [], ◌∷◌, ◌++◌, length, slice_index, Option, Some, None, refl, sym, ap, ◌∙◌, arith}
+use Rattle.std.proofs.Common.{◌≡◌, ℕ, zero, suc, ◌+◌, ◌^◌, ◌<◌, ◌≤◌, inl, List, [], ◌∷◌, length, slice_index, Option, Some, refl, ap, arith}
 use Rattle.std.specs.List.Sorted.{IsStrictlyIncreasing}
 use Rattle.ds_base.specs.Decoding.{IsDecoded}
 use Rattle.ds_bytes.specs.Fields.{front, spelled, AllBelow, FieldsFit}
@@ -29,17 +29,26 @@ parts_of bytes len below =
     let words = numbers_at 24 4 31 bytes (omega arith) (can 24 124 (omega arith)) in
     record {
       parts = record {
-        magic = magic.items; slot = slot.value; count = count.value; gap = gap.items; generation = generation.value;
-        txn = txn.value; words = words.values };
+        magic = magic.items;
+        slot = slot.value;
+        count = count.value;
+        gap = gap.items;
+        generation = generation.value;
+        txn = txn.value;
+        words = words.values;
+      };
       read = rw (words.read, txn.read, generation.read, gap.read, count.read, slot.read, magic.read, front_none bytes) refl;
-      fits = (magic.size, (slot.below, (count.below, (gap.size, (generation.below, (txn.below, ((words.count, words.below), tt))))))) }
+      fits = (magic.size, (slot.below, (count.below, (gap.size, (generation.below, (txn.below, ((words.count, words.below), tt)))))));
+    }
 
 rising_tail : (x y : ℕ) (xs : List ℕ) → IsStrictlyIncreasing (x ∷ y ∷ xs) → (x < y) × IsStrictlyIncreasing (y ∷ xs)
-rising_tail x y xs h =
-    (h 0 (omega arith), λ k l.
+rising_tail x y xs h = (
+  h 0 (omega arith),
+  λ k l.
       let e : suc k + 1 ≡ suc (k + 1) = omega arith in
       let below : slice_index (y ∷ xs) k < slice_index (x ∷ y ∷ xs) (suc k + 1) = h (suc k) (omega arith) in
-      rw e at below)
+      rw e at below,
+)
 
 rising_more : (x y : ℕ) (xs : List ℕ) → x < y → IsStrictlyIncreasing (y ∷ xs) → IsStrictlyIncreasing (x ∷ y ∷ xs)
 rising_more x y xs below h zero l = below
@@ -56,16 +65,16 @@ decided_rising (x ∷ y ∷ xs) =
 decided_widths : (x : Index) → Decided (HasWidths x)
 decided_widths x =
     decided_same
-      (λ d. record { slot_fits = d.0; generation_fits = d.1.0; txn_fits = d.1.1.0; targets_fit = d.1.1.1 })
-      (λ h. (h.slot_fits, (h.generation_fits, (h.txn_fits, h.targets_fit))))
-      (decided_both (decided_lt x.slot (2 ^ 8)) (decided_both (decided_lt x.generation (2 ^ 64)) (decided_both (decided_lt x.txn (2 ^ 64)) (decided_below (2 ^ 32) x.targets.items (omega arith)))))
+    (λ d. record { slot_fits = d.0; generation_fits = d.1.0; txn_fits = d.1.1.0; targets_fit = d.1.1.1 })
+    (λ h. (h.slot_fits, (h.generation_fits, (h.txn_fits, h.targets_fit))))
+    (decided_both (decided_lt x.slot (2 ^ 8)) (decided_both (decided_lt x.generation (2 ^ 64)) (decided_both (decided_lt x.txn (2 ^ 64)) (decided_below (2 ^ 32) x.targets.items (omega arith)))))
 
 decided_ranges : (x : Index) → Decided (InRanges x)
 decided_ranges x =
     decided_same
-      (λ d. record { some = d.0; most = d.1.0; rising = d.1.1 })
-      (λ h. (h.some, (h.most, h.rising)))
-      (decided_both (decided_le 1 (length x.targets.items)) (decided_both (decided_le (length x.targets.items) 31) (decided_rising x.targets.items)))
+    (λ d. record { some = d.0; most = d.1.0; rising = d.1.1 })
+    (λ h. (h.some, (h.most, h.rising)))
+    (decided_both (decided_le 1 (length x.targets.items)) (decided_both (decided_le (length x.targets.items) 31) (decided_rising x.targets.items)))
 
 decided_index : (x : Index) → Decided (IsIndex x)
 decided_index x =
@@ -75,5 +84,5 @@ pub index_reading : (bytes : List ℕ) → length bytes ≡ 512 → AllBelow 256
 index_reading bytes len below =
     let read = parts_of bytes len below in
     reading_of (Some (index_of read.parts)) (λ x. IsIndex x × (bytes ≡ index_bytes x))
-      (λ x d. ap Some (names_index bytes read.parts x read.fits d.0 read.read d.1).same)
-      (λ x. decided_both (decided_index x) (decided_bytes bytes (index_bytes x)))
+    (λ x d. ap Some (names_index bytes read.parts x read.fits d.0 read.read d.1).same)
+    (λ x. decided_both (decided_index x) (decided_bytes bytes (index_bytes x)))

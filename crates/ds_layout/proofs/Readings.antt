@@ -1,5 +1,5 @@
 -- Every 512 bytes have a reading as a volume information, and as a file system information.
-use Rattle.std.proofs.Common.{◌≡◌, ℕ, ◌+◌, ◌<◌, ◌≤◌, List, ◌++◌, length, Option, Some, None, refl, sym, ap, ◌∙◌, arith}
+use Rattle.std.proofs.Common.{◌≡◌, ℕ, ◌+◌, ◌≤◌, List, length, Option, Some, refl, ap, arith}
 use Rattle.ds_base.specs.Decoding.{IsDecoded}
 use Rattle.ds_base.specs.Geometry.{IsGeom, InRange, value_of, most_of}
 use Rattle.ds_base.specs.declared.geometry.Geom.{Geom}
@@ -42,11 +42,25 @@ vol_parts_of bytes len below =
     let h = number_at 50 2 bytes (can 50 2 (omega arith)) in
     record {
       parts = record {
-        magic = magic.items; gap = gap.items; version = version.value; sectors = sectors.value; volume = volume.items;
-        slots = slots.value; block = block.value; fd_clusters = a.value; fd_items = b.value; sb_clusters = c.value;
-        sb_items = d.value; pb_clusters = e.value; pb_items = f.value; fb_clusters = g.value; fb_items = h.value };
+        magic = magic.items;
+        gap = gap.items;
+        version = version.value;
+        sectors = sectors.value;
+        volume = volume.items;
+        slots = slots.value;
+        block = block.value;
+        fd_clusters = a.value;
+        fd_items = b.value;
+        sb_clusters = c.value;
+        sb_items = d.value;
+        pb_clusters = e.value;
+        pb_items = f.value;
+        fb_clusters = g.value;
+        fb_items = h.value;
+      };
       read = rw (h.read, g.read, f.read, e.read, d.read, c.read, b.read, a.read, block.read, slots.read, volume.read, sectors.read, version.read, gap.read, magic.read, front_none bytes) refl;
-      fits = (magic.size, (gap.size, (version.below, (sectors.below, (volume.size, (slots.below, (block.below, (a.below, (b.below, (c.below, (d.below, (e.below, (f.below, (g.below, (h.below, tt))))))))))))))) }
+      fits = (magic.size, (gap.size, (version.below, (sectors.below, (volume.size, (slots.below, (block.below, (a.below, (b.below, (c.below, (d.below, (e.below, (f.below, (g.below, (h.below, tt)))))))))))))));
+    }
 
 decided_field : (g : Geom) (field : GeomField) → Decided (InRange g field)
 decided_field g field = decided_both (decided_le 1 (value_of g field)) (decided_le (value_of g field) (most_of field))
@@ -73,27 +87,27 @@ geom_from g s b fd sb pb fb (Items Fb) = fb.1
 decided_geom : (g : Geom) → Decided (IsGeom g)
 decided_geom g =
     decided_same
-      (λ d. geom_from g d.0 d.1.0 d.1.1.0 d.1.1.1.0 d.1.1.1.1.0 d.1.1.1.1.1)
-      (λ is. (is Slots, (is Block, ((is (Clusters Fd), is (Items Fd)), ((is (Clusters Sb), is (Items Sb)), ((is (Clusters Pb), is (Items Pb)), (is (Clusters Fb), is (Items Fb))))))))
-      (decided_both (decided_field g Slots) (decided_both (decided_field g Block) (decided_both (decided_of_kind g Fd) (decided_both (decided_of_kind g Sb)
-        (decided_both (decided_of_kind g Pb) (decided_of_kind g Fb))))))
+    (λ d. geom_from g d.0 d.1.0 d.1.1.0 d.1.1.1.0 d.1.1.1.1.0 d.1.1.1.1.1)
+    (λ is. (is Slots, (is Block, ((is (Clusters Fd), is (Items Fd)), ((is (Clusters Sb), is (Items Sb)), ((is (Clusters Pb), is (Items Pb)), (is (Clusters Fb), is (Items Fb))))))))
+    (decided_both (decided_field g Slots) (decided_both (decided_field g Block) (decided_both (decided_of_kind g Fd) (decided_both (decided_of_kind g Sb)
+    (decided_both (decided_of_kind g Pb) (decided_of_kind g Fb))))))
 
 decided_vol : (g : Geom) (volume : List ℕ) → Decided (IsVol g volume)
 decided_vol g volume =
     decided_same
-      (λ d. record { shape = record { four_clusters = d.0.0; four_items = d.0.1 }; is_geom = d.1.0; is_id = d.1.1 })
-      (λ h. ((h.shape.four_clusters, h.shape.four_items), (h.is_geom, h.is_id)))
-      (decided_both (decided_both (decided_eq (length g.clusters) 4) (decided_eq (length g.items) 4)) (decided_both (decided_geom g) (decided_eq (length volume) 16)))
+    (λ d. record { shape = record { four_clusters = d.0.0; four_items = d.0.1 }; is_geom = d.1.0; is_id = d.1.1 })
+    (λ h. ((h.shape.four_clusters, h.shape.four_items), (h.is_geom, h.is_id)))
+    (decided_both (decided_both (decided_eq (length g.clusters) 4) (decided_eq (length g.items) 4)) (decided_both (decided_geom g) (decided_eq (length volume) 16)))
 
 pub vol_reading : (bytes : List ℕ) → length bytes ≡ 512 → AllBelow 256 bytes → (r : Option (Geom × List ℕ)) × IsDecoded r (λ v. IsVol v.0 v.1 × (bytes ≡ vol_bytes v.0 v.1))
 vol_reading bytes len below =
     let read = vol_parts_of bytes len below in
     let candidate : Geom × List ℕ = (geom_of read.parts, read.parts.volume) in
     reading_of (Some candidate) (λ v. IsVol v.0 v.1 × (bytes ≡ vol_bytes v.0 v.1))
-      (λ v d.
-        let same = names_vol bytes v.1 read.parts v.0 read.fits d.0 read.read d.1 in
-        ap Some (both_same candidate v.0 v.1 same.0 same.1))
-      (λ v. decided_both (decided_vol v.0 v.1) (decided_bytes bytes (vol_bytes v.0 v.1)))
+    (λ v d.
+    let same = names_vol bytes v.1 read.parts v.0 read.fits d.0 read.read d.1 in
+    ap Some (both_same candidate v.0 v.1 same.0 same.1))
+    (λ v. decided_both (decided_vol v.0 v.1) (decided_bytes bytes (vol_bytes v.0 v.1)))
 
 -- what is read of a sector as a file system information, field by field
 record FsPartsOf (bytes : List ℕ) : Type 0 where
@@ -113,11 +127,12 @@ fs_parts_of bytes len below =
     record {
       parts = record { magic = magic.items; gap = gap.items; version = version.value; none = none.value; volume = volume.items; root = root.value };
       read = rw (root.read, volume.read, none.read, version.read, gap.read, magic.read, front_none bytes) refl;
-      fits = (magic.size, (gap.size, (version.below, (none.below, (volume.size, (root.below, tt)))))) }
+      fits = (magic.size, (gap.size, (version.below, (none.below, (volume.size, (root.below, tt))))));
+    }
 
 pub fs_reading : (bytes : List ℕ) → length bytes ≡ 512 → AllBelow 256 bytes → (r : Option (List ℕ)) × IsDecoded r (λ volume. IsId volume × (bytes ≡ fs_bytes volume))
 fs_reading bytes len below =
     let read = fs_parts_of bytes len below in
     reading_of (Some read.parts.volume) (λ volume. IsId volume × (bytes ≡ fs_bytes volume))
-      (λ volume d. ap Some (names_fs bytes volume read.parts read.fits d.0 read.read d.1))
-      (λ volume. decided_both (decided_eq (length volume) 16) (decided_bytes bytes (fs_bytes volume)))
+    (λ volume d. ap Some (names_fs bytes volume read.parts read.fits d.0 read.read d.1))
+    (λ volume. decided_both (decided_eq (length volume) 16) (decided_bytes bytes (fs_bytes volume)))
