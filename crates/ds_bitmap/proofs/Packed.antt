@@ -1,5 +1,5 @@
 -- Truth values that were packed are unpacked again.
-use Rattle.std.proofs.Common.{◌≡◌, ℕ, zero, suc, ◌+◌, ◌-◌, ◌*◌, ◌/◌, ◌%◌, ◌^◌, ◌<◌, ◌≤◌, Bool, true, false, cond, eqb, List, [], ◌∷◌, ◌++◌, length, map, get_or, set, slice_get, take, Option, Some, None, slice_index_or, refl, sym, ap, ◌∙◌, arith}
+use Rattle.std.proofs.Common.{◌≡◌, ℕ, zero, suc, ◌+◌, ◌*◌, ◌/◌, ◌%◌, ◌^◌, ◌<◌, ◌≤◌, Bool, true, false, cond, eqb, List, [], ◌∷◌, ◌++◌, length, map, get_or, set, slice_get, take, Some, slice_index_or, refl, sym, ap, ◌∙◌, arith}
 use Rattle.std.specs.List.{range_with_len}
 use Rattle.std.proofs.lemmas.List.{append_assoc, append-nil, ext_get_or, get_or-take, length-take, length-take-le}
 use Rattle.std.proofs.lemmas.List.FromFn.{get_or-map-range_with_len, length-map-range_with_len, map-range_with_len_more}
@@ -8,7 +8,7 @@ use Rattle.std.proofs.Math.Seq.{take-set-lt}
 use Rattle.ds_base.specs.declared.geometry.Kind.{Kind}
 use Rattle.ds_base.specs.declared.geometry.Kind.TheVariants.{Fd, Sb, Pb, Fb}
 use Rattle.ds_base.specs.Geometry.{kind_number}
-use Rattle.ds_bytes.specs.Fields.{little, zeros, front, spelled, FieldsFit}
+use Rattle.ds_bytes.specs.Fields.{little, front, spelled, FieldsFit}
 use Rattle.ds_bytes.proofs.Fronts.{front-padded}
 use Rattle.ds_bytes.proofs.Little.{little_1, length-zeros}
 use Rattle.ds_bytes.proofs.SameFields.{length-spelled, read_same}
@@ -33,13 +33,21 @@ record EightBits (x a b c d e f g h : ℕ) : Type 0 where
 
 eight_bits : (a b c d e f g h : ℕ) → a ≤ 1 → b ≤ 1 → c ≤ 1 → d ≤ 1 → e ≤ 1 → f ≤ 1 → g ≤ 1 → h ≤ 1 → EightBits (a + 2 * b + 4 * c + 8 * d + 16 * e + 32 * f + 64 * g + 128 * h) a b c d e f g h
 eight_bits a b c d e f g h p q r s t u v w = record {
-  bit_0 = omega arith; bit_1 = omega arith; bit_2 = omega arith; bit_3 = omega arith;
-  bit_4 = omega arith; bit_5 = omega arith; bit_6 = omega arith; bit_7 = omega arith; below = omega arith }
+  bit_0 = omega arith;
+  bit_1 = omega arith;
+  bit_2 = omega arith;
+  bit_3 = omega arith;
+  bit_4 = omega arith;
+  bit_5 = omega arith;
+  bit_6 = omega arith;
+  bit_7 = omega arith;
+  below = omega arith;
+}
 
 bits_of_byte : (used : List Bool) (k : ℕ) → EightBits (byte_of used k) (bit_of used (8 * k)) (bit_of used (8 * k + 1)) (bit_of used (8 * k + 2)) (bit_of used (8 * k + 3)) (bit_of used (8 * k + 4)) (bit_of used (8 * k + 5)) (bit_of used (8 * k + 6)) (bit_of used (8 * k + 7))
 bits_of_byte used k =
     eight_bits (bit_of used (8 * k)) (bit_of used (8 * k + 1)) (bit_of used (8 * k + 2)) (bit_of used (8 * k + 3)) (bit_of used (8 * k + 4)) (bit_of used (8 * k + 5)) (bit_of used (8 * k + 6)) (bit_of used (8 * k + 7))
-      (bit_most used (8 * k)) (bit_most used (8 * k + 1)) (bit_most used (8 * k + 2)) (bit_most used (8 * k + 3)) (bit_most used (8 * k + 4)) (bit_most used (8 * k + 5)) (bit_most used (8 * k + 6)) (bit_most used (8 * k + 7))
+    (bit_most used (8 * k)) (bit_most used (8 * k + 1)) (bit_most used (8 * k + 2)) (bit_most used (8 * k + 3)) (bit_most used (8 * k + 4)) (bit_most used (8 * k + 5)) (bit_most used (8 * k + 6)) (bit_most used (8 * k + 7))
 
 pub byte_below : (used : List Bool) (k : ℕ) → byte_of used k < 256
 byte_below used k = (bits_of_byte used k).below
@@ -90,7 +98,7 @@ kind_fits Sb = omega arith
 kind_fits Pb = omega arith
 kind_fits Fb = omega arith
 
-kind_same : (a b : Kind) → kind_number a ≡ kind_number b → a ≡ b
+pub kind_same : (a b : Kind) → kind_number a ≡ kind_number b → a ≡ b
 kind_same Fd Fd e = refl
 kind_same Fd Sb e = absurd (cc)
 kind_same Fd Pb e = absurd (cc)
@@ -122,8 +130,8 @@ pub unpacked_same : (bits : List ℕ) (used all : List Bool) (n : ℕ) → bits 
 unpacked_same bits used all n e len most size each =
     let front_size : length (take n all) ≡ n = length-take-le n all (omega arith) in
     ext_get_or false (take n all) used (front_size ∙ sym len) (λ i h.
-      let below : i < n = omega arith in
-      get_or-take n all i false below ∙ each i (omega arith) ∙ ap (λ b. bit_at b i) e ∙ bit_again used 480 i (omega arith))
+    let below : i < n = omega arith in
+    get_or-take n all i false below ∙ each i (omega arith) ∙ ap (λ b. bit_at b i) e ∙ bit_again used 480 i (omega arith))
 
 -- one item changed, as far as there are items
 pub put_front : (n : ℕ) (all used : List Bool) (i : ℕ) (v w : Bool) → take n all ≡ used → slice_get used i ≡ Some w → take n (set all i v) ≡ set used i v
@@ -151,5 +159,5 @@ bits_same a b p q m n e =
     let count : length a.used ≡ length b.used = cc in
     let bits : packed 480 a.used ≡ packed 480 b.used = cc in
     same_bitmap a b (kind_same a.kind b.kind code) cluster (ext_get_or false a.used b.used count (λ i h.
-      let below : i < 8 * 480 = omega arith in
-      sym (bit_again a.used 480 i below) ∙ ap (λ bs. bit_at bs i) bits ∙ bit_again b.used 480 i below))
+    let below : i < 8 * 480 = omega arith in
+    sym (bit_again a.used 480 i below) ∙ ap (λ bs. bit_at bs i) bits ∙ bit_again b.used 480 i below))

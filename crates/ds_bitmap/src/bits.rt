@@ -1,6 +1,20 @@
 //! Bitmaps and their sectors.
 ghost use Rattle.std.specs.Prelude.{
-    ◌≡◌, ◌<◌, ◌≤◌, ◌↔◌, Bool, true, false, not, Some, length, count_by, slice_get, slice_set, MatchOption};
+  ◌≡◌,
+  ◌<◌,
+  ◌≤◌,
+  ◌↔◌,
+  Bool,
+  true,
+  false,
+  not,
+  Some,
+  length,
+  count_by,
+  slice_get,
+  slice_set,
+  MatchOption,
+};
 ghost use Rattle.ds_base.specs.Decoding.{IsDecoded};
 ghost use Rattle.ds_base.specs.Geometry.{IsGeom, clusters_of, per_cluster};
 ghost use Rattle.ds_bytes.specs.Fields.{front, spelled, FieldsFit};

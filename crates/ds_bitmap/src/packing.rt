@@ -1,6 +1,21 @@
 //! Truth values as bits, eight to a byte, the first in the lowest bit.
 ghost use Rattle.std.specs.Prelude.{
-    ◌≡◌, ℕ, ◌+◌, ◌*◌, ◌/◌, ◌%◌, ◌^◌, ◌<◌, ◌≤◌, ◌==◌, ◌++◌, false, length, slice_index, slice_index_or};
+  ◌≡◌,
+  ℕ,
+  ◌+◌,
+  ◌*◌,
+  ◌/◌,
+  ◌%◌,
+  ◌^◌,
+  ◌<◌,
+  ◌≤◌,
+  ◌==◌,
+  ◌++◌,
+  false,
+  length,
+  slice_index,
+  slice_index_or,
+};
 ghost use Rattle.ds_bitmap.specs.Bits.{bit_of, byte_of, packed};
 ghost use Rattle.ds_bitmap.specs.BitsParts.{bit_at};
 

@@ -94,7 +94,10 @@ fn refuses_sectors_that_differ_in_one_byte(rt: HostRuntime) -> Result<(), Fail> 
             *cell = byte;
         }
         let sector = Sector { bytes };
-        assert!(rt; Bits::decode(&geom, Kind::Sb, 1, &sector).is_none(), "with {byte} at {at}");
+        assert!(rt;
+            Bits::decode(&geom, Kind::Sb, 1, &sector).is_none(),
+            "with {byte} at {at}"
+        );
     }
     Ok(())
 }

@@ -1,11 +1,12 @@
 -- What is read of a sector that spells an index is that index.
-use Rattle.std.proofs.Common.{◌≡◌, ℕ, zero, suc, ◌-◌, ◌^◌, ◌<◌, ◌≤◌, Bool, true, false, List, [], ◌∷◌, ◌++◌, length, slice_index, take, Option, Some, None, IsSome, IfSome, ◌↔◌, refl, sym, ap, ◌∙◌, arith}
+use Rattle.std.proofs.Common.{◌≡◌, ℕ, zero, suc, ◌-◌, ◌^◌, ◌<◌, ◌≤◌, true, false, List, [], ◌∷◌, ◌++◌, length, slice_index, take, Option, Some, None, IsSome, IfSome, ◌↔◌, refl, sym, ap, ◌∙◌, arith}
 use Rattle.std.proofs.lemmas.List.{length-append, take_at}
 use Rattle.ds_bytes.specs.Fields.{zeros, front, spelled, FieldsFit, AllBelow}
 use Rattle.ds_bytes.proofs.Fronts.{front-padded}
 use Rattle.ds_bytes.proofs.Little.{length-zeros}
+use Rattle.ds_bytes.proofs.Readings.{AllBelow-take}
 use Rattle.ds_bytes.proofs.SameFields.{length-spelled, read_same}
-use Rattle.ds_jrnl.specs.Index.{HasWidths, InRanges, IsIndex, index_fields, index_bytes}
+use Rattle.ds_jrnl.specs.Index.{HasWidths, IsIndex, index_fields, index_bytes}
 use Rattle.ds_jrnl.specs.IndexParts.{part_fields, index_of}
 use Rattle.ds_jrnl.specs.declared.index.Index.{Index}
 use Rattle.ds_jrnl.specs.declared.index_parts.IndexParts.{IndexParts}
@@ -20,19 +21,29 @@ below_append limit [] ys h k = k
 below_append limit (x ∷ xs) ys h k =
     λ i. elim i as (λ j. slice_index (x ∷ (xs ++ ys)) j < limit) [ zero ↦ h 0 | suc j ↦ below_append limit xs ys (λ m. h (suc m)) k j ]
 
-below_take : (limit n : ℕ) (xs : List ℕ) → 0 < limit → AllBelow limit xs → AllBelow limit (take n xs)
-below_take limit zero xs h all = λ i. h
-below_take limit (suc n) [] h all = λ i. h
-below_take limit (suc n) (x ∷ xs) h all =
-    λ i. elim i as (λ k. slice_index (x ∷ take n xs) k < limit) [ zero ↦ all 0 | suc k ↦ below_take limit n xs h (λ j. all (suc j)) k ]
-
 pub index_fields_fit : (x : Index) → IsIndex x → FieldsFit (index_fields x)
 index_fields_fit x h =
     let targets = x.targets.items in
     let most : length x.targets.items ≤ 31 = h.ranges.most in
-    let count : length (x.targets.items ++ zeros (31 - length x.targets.items)) ≡ 31 = omega (arith, length-append x.targets.items (zeros (31 - length x.targets.items)), length-zeros (31 - length x.targets.items)) in
-    (refl, (h.widths.slot_fits, (omega arith, (length-zeros 2, (h.widths.generation_fits, (h.widths.txn_fits,
-    ((count, below_append (2 ^ 32) x.targets.items (zeros (31 - length x.targets.items)) h.widths.targets_fit (below_zeros (2 ^ 32) (31 - length x.targets.items) (omega arith))), tt)))))))
+    let count : length (x.targets.items ++ zeros (31 - length x.targets.items)) ≡ 31 = omega (arith, length-append x.targets.items (zeros (31 - length x.targets.items)), length-zeros (31 - length x.targets.items)) in (
+      refl,
+      (
+        h.widths.slot_fits,
+        (
+          omega arith,
+          (
+            length-zeros 2,
+            (
+              h.widths.generation_fits,
+              (
+                h.widths.txn_fits,
+                ((count, below_append (2 ^ 32) x.targets.items (zeros (31 - length x.targets.items)) h.widths.targets_fit (below_zeros (2 ^ 32) (31 - length x.targets.items) (omega arith))), tt),
+              ),
+            ),
+          ),
+        ),
+      ),
+    )
 
 -- what was read has the widths of its types
 pub widths_of : (p : IndexParts) → FieldsFit (part_fields p) → HasWidths (index_of p)
@@ -40,7 +51,8 @@ widths_of p fits = record {
   slot_fits = fits.1.0;
   generation_fits = fits.1.1.1.1.0;
   txn_fits = fits.1.1.1.1.1.0;
-  targets_fit = below_take (2 ^ 32) p.count p.words (omega arith) fits.1.1.1.1.1.1.0.1 }
+  targets_fit = AllBelow-take (2 ^ 32) p.count p.words (omega arith) fits.1.1.1.1.1.1.0.1;
+}
 
 same_index : (a b : Index) → a.slot ≡ b.slot → a.generation ≡ b.generation → a.txn ≡ b.txn → a.targets.items ≡ b.targets.items → a ≡ b
 same_index a b p q r s =
@@ -66,7 +78,8 @@ named p x h same =
     let most : length x.targets.items ≤ 31 = h.ranges.most in
     record {
       most = omega arith;
-      same = same_index (index_of p) x slot generation txn (held p.count p.words x.targets.items (31 - length x.targets.items) count words) }
+      same = same_index (index_of p) x slot generation txn (held p.count p.words x.targets.items (31 - length x.targets.items) count words);
+    }
 
 pub names_index : (bytes : List ℕ) (p : IndexParts) (x : Index) → FieldsFit (part_fields p) → IsIndex x → front 148 bytes ≡ spelled (part_fields p) → bytes ≡ index_bytes x → Named p x
 unfolding index_bytes

@@ -1,5 +1,5 @@
 -- Which indexes there are, and the sectors that spell them.
-use Rattle.std.specs.Prelude.{◌≡◌, ℕ, ◌-◌, ◌^◌, ◌<◌, ◌≤◌, List, [], ◌∷◌, ◌++◌, length, codes}
+use Rattle.std.specs.Prelude.{ℕ, ◌-◌, ◌^◌, ◌<◌, ◌≤◌, List, [], ◌∷◌, ◌++◌, length, codes}
 use Rattle.std.specs.List.Sorted.{IsStrictlyIncreasing}
 use Rattle.ds_bytes.specs.Fields.{zeros, AllBelow, Field, Num, Raw, Nums, sector_of_fields}
 use Rattle.ds_jrnl.specs.declared.index.Index.{Index}

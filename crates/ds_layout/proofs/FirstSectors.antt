@@ -1,15 +1,15 @@
 -- What is read of the first two sectors, and what they spell.
-use Rattle.std.proofs.Common.{◌≡◌, ℕ, ◌%◌, ◌^◌, ◌<◌, ◌≤◌, List, [], ◌∷◌, length, slice_index, refl, sym, ap, ◌∙◌, arith}
+use Rattle.std.proofs.Common.{◌≡◌, ℕ, ◌%◌, ◌^◌, ◌<◌, ◌≤◌, List, [], ◌∷◌, length, slice_index, refl, sym, ◌∙◌, arith}
 use Rattle.ds_base.specs.declared.geometry.Geom.{Geom}
 use Rattle.ds_base.specs.declared.geometry.Kind.TheVariants.{Fd, Sb, Pb, Fb}
 use Rattle.ds_base.specs.declared.geometry.GeomField.TheVariants.{Slots, Block, Clusters, Items}
 use Rattle.ds_base.specs.Geometry.{IsGeom, clusters_of, per_cluster}
-use Rattle.ds_bytes.specs.Fields.{zeros, front, spelled, FieldsFit}
+use Rattle.ds_bytes.specs.Fields.{front, spelled, FieldsFit}
 use Rattle.ds_bytes.proofs.Fronts.{front-padded}
 use Rattle.ds_bytes.proofs.Little.{length-zeros}
 use Rattle.ds_bytes.proofs.SameFields.{length-spelled, read_same}
 use Rattle.ds_layout.specs.Places.{total_of}
-use Rattle.ds_layout.specs.Volume.{IsId, IsVol, HasShape, vol_fields, vol_bytes, fs_fields, fs_bytes}
+use Rattle.ds_layout.specs.Volume.{IsId, IsVol, vol_fields, vol_bytes, fs_fields, fs_bytes}
 use Rattle.ds_layout.specs.VolumeParts.{vol_part_fields, geom_of, fs_part_fields}
 use Rattle.ds_layout.specs.declared.volume.VolParts.{VolParts}
 use Rattle.ds_layout.specs.declared.volume.FsParts.{FsParts}
@@ -49,9 +49,28 @@ vol_fields_fit g volume h =
     let fd_items : per_cluster g Fd ≤ 256 = (is (Items Fd)).1 in
     let sb_items : per_cluster g Sb ≤ 3840 = (is (Items Sb)).1 in
     let pb_items : per_cluster g Pb ≤ 3840 = (is (Items Pb)).1 in
-    let fb_items : per_cluster g Fb ≤ 3840 = (is (Items Fb)).1 in
-    (refl, (length-zeros 2, (omega arith, (total_fits g is, (h.is_id, (omega arith, (omega arith,
-    (omega arith, (omega arith, (omega arith, (omega arith, (omega arith, (omega arith, (omega arith, (omega arith, tt)))))))))))))))
+    let fb_items : per_cluster g Fb ≤ 3840 = (is (Items Fb)).1 in (
+      refl,
+      (
+        length-zeros 2,
+        (
+          omega arith,
+          (
+            total_fits g is,
+            (
+              h.is_id,
+              (
+                omega arith,
+                (
+                  omega arith,
+                  (omega arith, (omega arith, (omega arith, (omega arith, (omega arith, (omega arith, (omega arith, (omega arith, tt)))))))),
+                ),
+              ),
+            ),
+          ),
+        ),
+      ),
+    )
 
 four_numbers : (xs : List ℕ) → length xs ≡ 4 → xs ≡ slice_index xs 0 ∷ slice_index xs 1 ∷ slice_index xs 2 ∷ slice_index xs 3 ∷ []
 four_numbers [] h = absurd (omega arith)
@@ -96,11 +115,13 @@ names_vol bytes volume p g fits h read e =
     let to_fd : clusters_of g Fd ≤ 8 = (is (Clusters Fd)).1 in
     let to_sb : clusters_of g Sb ≤ 8 = (is (Clusters Sb)).1 in
     let to_pb : clusters_of g Pb ≤ 8 = (is (Clusters Pb)).1 in
-    let to_fb : clusters_of g Fb ≤ 8 = (is (Clusters Fb)).1 in
-    (same_geom (geom_of p) g (low p.slots g.slots slots to_slots) block
-      (four_same _ _ _ _ g.clusters h.shape.four_clusters (low p.fd_clusters (clusters_of g Fd) fd (omega arith)) (low p.sb_clusters (clusters_of g Sb) sb (omega arith))
-        (low p.pb_clusters (clusters_of g Pb) pb (omega arith)) (low p.fb_clusters (clusters_of g Fb) fb (omega arith)))
-      (four_same _ _ _ _ g.items h.shape.four_items fd_items sb_items pb_items fb_items), id)
+    let to_fb : clusters_of g Fb ≤ 8 = (is (Clusters Fb)).1 in (
+      same_geom (geom_of p) g (low p.slots g.slots slots to_slots) block
+          (four_same _ _ _ _ g.clusters h.shape.four_clusters (low p.fd_clusters (clusters_of g Fd) fd (omega arith)) (low p.sb_clusters (clusters_of g Sb) sb (omega arith))
+          (low p.pb_clusters (clusters_of g Pb) pb (omega arith)) (low p.fb_clusters (clusters_of g Fb) fb (omega arith)))
+          (four_same _ _ _ _ g.items h.shape.four_items fd_items sb_items pb_items fb_items),
+      id,
+    )
 
 -- two volumes whose information is spelled alike are one
 pub vol_same : (g h : Geom) (a b : List ℕ) → IsVol g a → IsVol h b → vol_bytes g a ≡ vol_bytes h b → (g ≡ h) × (a ≡ b)
@@ -118,10 +139,12 @@ vol_same g h a b p q e =
     let fd_items : per_cluster g Fd ≡ per_cluster h Fd = cc in
     let sb_items : per_cluster g Sb ≡ per_cluster h Sb = cc in
     let pb_items : per_cluster g Pb ≡ per_cluster h Pb = cc in
-    let fb_items : per_cluster g Fb ≡ per_cluster h Fb = cc in
-    (same_geom g h slots block
-      (four_numbers g.clusters p.shape.four_clusters ∙ four_same _ _ _ _ h.clusters q.shape.four_clusters fd sb pb fb)
-      (four_numbers g.items p.shape.four_items ∙ four_same _ _ _ _ h.items q.shape.four_items fd_items sb_items pb_items fb_items), id)
+    let fb_items : per_cluster g Fb ≡ per_cluster h Fb = cc in (
+      same_geom g h slots block
+          (four_numbers g.clusters p.shape.four_clusters ∙ four_same _ _ _ _ h.clusters q.shape.four_clusters fd sb pb fb)
+          (four_numbers g.items p.shape.four_items ∙ four_same _ _ _ _ h.items q.shape.four_items fd_items sb_items pb_items fb_items),
+      id,
+    )
 
 pub both_same : (r : Geom × List ℕ) (g : Geom) (volume : List ℕ) → r.0 ≡ g → r.1 ≡ volume → r ≡ (g, volume)
 both_same r g volume p q =

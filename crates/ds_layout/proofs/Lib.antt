@@ -1,3 +1,4 @@
 pub mod Bounds
 pub mod FirstSectors
+pub mod Readings
 pub mod SamePlace

@@ -1,11 +1,11 @@
 -- A volume is runs of items of so many sectors each, one after another; so each sector is that of one place.
-use Rattle.std.proofs.Common.{◌≡◌, ℕ, zero, suc, ◌+◌, ◌-◌, ◌*◌, ◌/◌, ◌%◌, ◌<◌, ◌≤◌, ◌⊎◌, inl, inr, nat_lt, Bool, true, List, [], ◌∷◌, Option, Some, None, MatchOption, refl, sym, ap, ◌∙◌, arith}
+use Rattle.std.proofs.Common.{◌≡◌, ℕ, zero, suc, ◌+◌, ◌*◌, ◌<◌, ◌≤◌, inl, inr, nat_lt, true, List, [], ◌∷◌, Option, Some, None, MatchOption, refl, sym, ap, ◌∙◌, arith}
 use Rattle.std.proofs.lemmas.Bool.Decides.{nat_tests}
 use Rattle.ds_base.specs.declared.geometry.Geom.{Geom}
 use Rattle.ds_base.specs.declared.geometry.Kind.{Kind}
 use Rattle.ds_base.specs.declared.geometry.Kind.TheVariants.{Fd, Sb, Pb, Fb}
-use Rattle.ds_base.specs.Geometry.{IsGeom, kind_number, clusters_of, items_of}
-use Rattle.ds_layout.specs.Places.{descriptors_at, cluster_at, cluster_lock, header_sector, IsClusterLock, IsLock, IsPlace, place_sector, total_of}
+use Rattle.ds_base.specs.Geometry.{IsGeom, clusters_of, items_of}
+use Rattle.ds_layout.specs.Places.{descriptors_at, cluster_lock, header_sector, IsLock, IsPlace, place_sector, total_of}
 use Rattle.ds_layout.specs.Regions.{HasBounds}
 use Rattle.ds_layout.specs.declared.places.Place.{Place}
 use Rattle.ds_layout.specs.declared.places.Place.TheVariants.{VolInfo, FsInfo, Slot, Journal, Header, Bitmap, Body, SubBlock, PtrBlock, Block}

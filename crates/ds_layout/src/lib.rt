@@ -3,9 +3,9 @@
 
 mod places;
 mod regions;
-mod volume;
 #[cfg(test)]
 mod tests;
+mod volume;
 
 pub use places::{Place, place_of, sector_of, total};
 pub use volume::{decode_fs, decode_vol, encode_fs, encode_vol};

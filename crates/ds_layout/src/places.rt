@@ -2,8 +2,16 @@
 ghost use Rattle.std.specs.Prelude.{◌≡◌, ◌≤◌, ◌<◌, ◌+◌, ◌*◌, ◌-◌, ◌/◌, ◌%◌, Some, MatchOption};
 ghost use Rattle.ds_base.specs.Geometry.{IsGeom, clusters_of, items_of};
 ghost use Rattle.ds_layout.specs.Places.{
-    total_of, kind_numbered, clusters_before, all_clusters, cluster_at, cluster_lock, header_sector, IsPlace,
-    place_sector};
+  total_of,
+  kind_numbered,
+  clusters_before,
+  all_clusters,
+  cluster_at,
+  cluster_lock,
+  header_sector,
+  IsPlace,
+  place_sector,
+};
 ghost use Rattle.ds_layout.specs.Regions.{AreRegions, HasBounds};
 ghost use Rattle.ds_layout.specs.declared.places.Place.{Place};
 
@@ -18,25 +26,16 @@ pub enum Place {
     FsInfo,
     Slot(SlotNo),
     /// Sector `index` of a slot's journal: 0 to 30 hold new sectors, 31 the index.
-    Journal {
-        slot: SlotNo,
-        index: u8,
-    },
+    Journal { slot: SlotNo, index: u8 },
     /// The header of a lock object.
     Header(ObjNo),
-    Bitmap {
-        kind: Kind,
-        cluster: u8,
-    },
+    Bitmap { kind: Kind, cluster: u8 },
     /// The body of a descriptor.
     Body(ObjNo),
     SubBlock(u32),
     PtrBlock(u32),
     /// Sector `index` of a file block.
-    Block {
-        block: u32,
-        index: u16,
-    },
+    Block { block: u32, index: u16 },
 }
 
 /// The number of all sectors: at most 62,980,690, with 16 slots, blocks of 2,048 sectors, 8 clusters of each kind, 256
@@ -60,9 +59,16 @@ pub fn sector_of(geom: &Geom, place: &Place) -> SectorNo
         Place::VolInfo => 0,
         Place::FsInfo => 1,
         Place::Slot(slot) => 2 + u32::from(slot),
-        Place::Journal { slot, index } => regions.journals + 32 * u32::from(slot) + u32::from(index),
+        Place::Journal { slot, index } => regions.journals
+            + 32 * u32::from(slot)
+            + u32::from(index),
         Place::Header(object) => sector_of_header(geom, &regions, object),
-        Place::Bitmap { kind, cluster } => sector_of_cluster(geom, &regions, kind, u32::from(cluster)) + 1,
+        Place::Bitmap { kind, cluster } => sector_of_cluster(
+            geom,
+            &regions,
+            kind,
+            u32::from(cluster),
+        ) + 1,
         Place::Body(object) => regions.descriptors + 2 * object + 1,
         Place::SubBlock(n) => regions.sub_blocks + n,
         Place::PtrBlock(n) => regions.ptr_blocks + n,

@@ -34,7 +34,13 @@ fn places_of_a_small_volume(rt: HostRuntime) -> Result<(), Fail> {
         (136, Place::Header(2056)),
         (138, Place::Header(2064)),
         (140, Place::Header(2072)),
-        (141, Place::Bitmap { kind: Kind::Fb, cluster: 0 }),
+        (
+            141,
+            Place::Bitmap {
+                kind: Kind::Fb,
+                cluster: 0,
+            },
+        ),
         (142, Place::Header(0)),
         (145, Place::Body(1)),
         (173, Place::Body(15)),
@@ -43,7 +49,13 @@ fn places_of_a_small_volume(rt: HostRuntime) -> Result<(), Fail> {
         (182, Place::PtrBlock(0)),
         (189, Place::PtrBlock(7)),
         (190, Place::Block { block: 0, index: 0 }),
-        (253, Place::Block { block: 63, index: 0 }),
+        (
+            253,
+            Place::Block {
+                block: 63,
+                index: 0,
+            },
+        ),
     ];
     for (at, place) in places {
         let found = place_of(&geom, at);
@@ -67,11 +79,23 @@ fn the_largest_and_the_smallest_volume(rt: HostRuntime) -> Result<(), Fail> {
     };
     largest.check()?;
     assert_eq!(rt; total(&largest), 62_980_690);
-    let last = Place::Block { block: 30_719, index: 2047 };
+    let last = Place::Block {
+        block: 30_719,
+        index: 2047,
+    };
     assert_eq!(rt; place_of(&largest, 62_980_689), Some(last));
-    assert_eq!(rt; place_of(&largest, 593), Some(Place::Bitmap { kind: Kind::Fb, cluster: 7 }));
+    assert_eq!(rt;
+        place_of(&largest, 593),
+        Some(Place::Bitmap {
+            kind: Kind::Fb,
+            cluster: 7
+        })
+    );
     assert_eq!(rt; place_of(&largest, 592), Some(Place::Header(2079)));
-    assert_eq!(rt; place_of(&largest, 66_130 + 2048), Some(Place::Block { block: 1, index: 0 }));
+    assert_eq!(rt;
+        place_of(&largest, 66_130 + 2048),
+        Some(Place::Block { block: 1, index: 0 })
+    );
     let smallest = Geom {
         slots: 1,
         block: 1,
@@ -155,7 +179,11 @@ fn refuses_sectors_that_differ_in_one_byte(rt: HostRuntime) {
         (511, 1),
     ];
     for (at, byte) in of_vol {
-        assert_eq!(rt; decode_vol(&with_byte(vol_bytes(), at, byte)), None, "{byte} at {at}");
+        assert_eq!(rt;
+            decode_vol(&with_byte(vol_bytes(), at, byte)),
+            None,
+            "{byte} at {at}"
+        );
     }
     let of_fs: [(usize, u8); 11] = [
         (0, 0),
@@ -171,6 +199,10 @@ fn refuses_sectors_that_differ_in_one_byte(rt: HostRuntime) {
         (511, 1),
     ];
     for (at, byte) in of_fs {
-        assert_eq!(rt; decode_fs(&with_byte(fs_bytes(), at, byte)), None, "{byte} at {at}");
+        assert_eq!(rt;
+            decode_fs(&with_byte(fs_bytes(), at, byte)),
+            None,
+            "{byte} at {at}"
+        );
     }
 }

@@ -1,7 +1,7 @@
 -- What is read of a sector that spells a header is that header.
-use Rattle.std.proofs.Common.{◌≡◌, ℕ, ◌^◌, ◌<◌, ◌≤◌, List, [], ◌∷◌, length, replicate, Option, Some, None, refl, sym, ap, ◌∙◌, arith}
+use Rattle.std.proofs.Common.{◌≡◌, ℕ, ◌^◌, ◌<◌, ◌≤◌, List, length, Option, Some, None, refl, sym, ◌∙◌, arith}
 use Rattle.std.proofs.lemmas.List.{length-replicate}
-use Rattle.ds_bytes.specs.Fields.{zeros, front, spelled, FieldsFit}
+use Rattle.ds_bytes.specs.Fields.{front, spelled, FieldsFit}
 use Rattle.ds_bytes.proofs.Fronts.{front-padded}
 use Rattle.ds_bytes.proofs.Little.{length-zeros}
 use Rattle.ds_bytes.proofs.SameFields.{length-spelled, read_same}

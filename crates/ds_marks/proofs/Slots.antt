@@ -1,5 +1,5 @@
 -- What is read of a sector that spells a slot is that slot.
-use Rattle.std.proofs.Common.{◌≡◌, ℕ, ◌^◌, ◌<◌, ◌≤◌, List, [], ◌∷◌, length, Option, Some, None, refl, sym, ap, ◌∙◌, arith}
+use Rattle.std.proofs.Common.{◌≡◌, ℕ, ◌^◌, ◌<◌, ◌≤◌, List, Some, refl, sym, ◌∙◌, arith}
 use Rattle.ds_bytes.specs.Fields.{front, spelled, FieldsFit}
 use Rattle.ds_bytes.proofs.Fronts.{front-padded}
 use Rattle.ds_bytes.proofs.SameFields.{length-spelled, read_same}
@@ -39,9 +39,28 @@ slot_fields_fit number s below h =
     let generation : s.generation ≤ 2 ^ 62 = h.ranges.generation_to in
     let txn : txn_of s.journal < 2 ^ 64 = h.widths.txn_fits in
     let breaker = breaker_fits s.state s h.ranges.is_of_state in
-    let journal = journal_fits s.journal h.ranges.is_of_journal in
-    (refl, (state_fits s.state, (journal.0, (breaker.0, (journal.1, (omega arith, (h.widths.host_size,
-    (stamp_fits s.state s h.ranges.is_of_state, (txn, (breaker.1, (omega arith, tt)))))))))))
+    let journal = journal_fits s.journal h.ranges.is_of_journal in (
+      refl,
+      (
+        state_fits s.state,
+        (
+          journal.0,
+          (
+            breaker.0,
+            (
+              journal.1,
+              (
+                omega arith,
+                (
+                  h.widths.host_size,
+                  (stamp_fits s.state s h.ranges.is_of_state, (txn, (breaker.1, (omega arith, tt)))),
+                ),
+              ),
+            ),
+          ),
+        ),
+      ),
+    )
 
 state_again : (t : SlotState) → state_named (state_code t) (breaker_of t) (breaker_generation_of t) ≡ Some t
 state_again Free = refl

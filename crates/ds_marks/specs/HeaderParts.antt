@@ -20,5 +20,5 @@ owner_named (suc (suc _)) o = None
 abbrev pub header_of : HeaderParts → Option Header
 header_of p =
     option_map
-      (λ owner. record { object = p.object; generation = p.generation; owner = owner })
-      (owner_named p.owned (record { slot = p.slot; generation = p.owner_generation; host = p.host }))
+    (λ owner. record { object = p.object; generation = p.generation; owner = owner })
+    (owner_named p.owned (record { slot = p.slot; generation = p.owner_generation; host = p.host }))

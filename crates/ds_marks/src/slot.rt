@@ -3,8 +3,20 @@ ghost use Rattle.std.specs.Prelude.{◌≡◌, ◌<◌, ◌≤◌, ◌^◌, ◌�
 ghost use Rattle.ds_base.specs.Decoding.{IsDecoded};
 ghost use Rattle.ds_marks.specs.declared.slot.Slot.{Slot};
 ghost use Rattle.ds_marks.specs.Slot.{
-    state_code, breaker_of, breaker_generation_of, journal_code, txn_of, count_of, IsBreaker, IsOfState, IsOfJournal,
-    HasWidths, InRanges, IsSlot, slot_bytes};
+  state_code,
+  breaker_of,
+  breaker_generation_of,
+  journal_code,
+  txn_of,
+  count_of,
+  IsBreaker,
+  IsOfState,
+  IsOfJournal,
+  HasWidths,
+  InRanges,
+  IsSlot,
+  slot_bytes,
+};
 
 use crate::slot_parts::SlotParts;
 use ds_base::{Gen, Sector, SlotNo};

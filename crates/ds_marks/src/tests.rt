@@ -17,7 +17,9 @@ fn live_bytes() -> [u8; 512] {
     let mut bytes = [0; 512];
     bytes[..16].copy_from_slice(b"DSHB\x01\x01\x00\x1f\x08\x07\x06\x05\x04\x03\x02\x01");
     bytes[16..32].copy_from_slice(&ID);
-    bytes[32..48].copy_from_slice(b"\x09\x00\x00\x00\x00\x00\x00\x00\x05\x00\x00\x00\x00\x00\x00\x00");
+    bytes[32..48].copy_from_slice(
+        b"\x09\x00\x00\x00\x00\x00\x00\x00\x05\x00\x00\x00\x00\x00\x00\x00",
+    );
     bytes[56..60].copy_from_slice(b"\x02\x00\x00\x00");
     bytes
 }
@@ -110,7 +112,11 @@ fn refuses_slots_that_differ_in_one_byte(rt: HostRuntime) {
         (511, 1),
     ];
     for (at, byte) in of_free {
-        assert_eq!(rt; Slot::decode(3, &with_byte(free_bytes(), at, byte)), None, "free: {byte} at {at}");
+        assert_eq!(rt;
+            Slot::decode(3, &with_byte(free_bytes(), at, byte)),
+            None,
+            "free: {byte} at {at}"
+        );
     }
     let of_live: [(usize, u8); 13] = [
         (4, 0),
@@ -128,7 +134,11 @@ fn refuses_slots_that_differ_in_one_byte(rt: HostRuntime) {
         (60, 1),
     ];
     for (at, byte) in of_live {
-        assert_eq!(rt; Slot::decode(2, &with_byte(live_bytes(), at, byte)), None, "live: {byte} at {at}");
+        assert_eq!(rt;
+            Slot::decode(2, &with_byte(live_bytes(), at, byte)),
+            None,
+            "live: {byte} at {at}"
+        );
     }
     let of_breaking: [(usize, u8); 12] = [
         (4, 1),
@@ -145,7 +155,11 @@ fn refuses_slots_that_differ_in_one_byte(rt: HostRuntime) {
         (55, 0),
     ];
     for (at, byte) in of_breaking {
-        assert_eq!(rt; Slot::decode(15, &with_byte(breaking_bytes(), at, byte)), None, "breaking: {byte} at {at}");
+        assert_eq!(rt;
+            Slot::decode(15, &with_byte(breaking_bytes(), at, byte)),
+            None,
+            "breaking: {byte} at {at}"
+        );
     }
 }
 
@@ -174,8 +188,22 @@ fn spells_headers_byte_for_byte(rt: HostRuntime) {
         host: Uuid::from_bytes(ID),
     };
     let headers = [
-        (unowned_bytes(), Header { object: 2072, generation: 0, owner: None }),
-        (owned_bytes(), Header { object: 0x0102_0304, generation: 1 << 62, owner: Some(owner) }),
+        (
+            unowned_bytes(),
+            Header {
+                object: 2072,
+                generation: 0,
+                owner: None,
+            },
+        ),
+        (
+            owned_bytes(),
+            Header {
+                object: 0x0102_0304,
+                generation: 1 << 62,
+                owner: Some(owner),
+            },
+        ),
     ];
     for (bytes, header) in headers {
         let sector = Sector { bytes };
@@ -209,9 +237,21 @@ fn refuses_headers_that_differ_in_one_byte(rt: HostRuntime) {
         (511, 1),
     ];
     for (at, byte) in of_unowned {
-        assert_eq!(rt; Header::decode(2072, &with_byte(unowned_bytes(), at, byte)), None, "unowned: {byte} at {at}");
+        assert_eq!(rt;
+            Header::decode(2072, &with_byte(unowned_bytes(), at, byte)),
+            None,
+            "unowned: {byte} at {at}"
+        );
     }
-    let of_owned: [(usize, u8); 7] = [(4, 0), (4, 2), (6, 1), (16, 1), (24, 0), (31, 0x40), (48, 1)];
+    let of_owned: [(usize, u8); 7] = [
+        (4, 0),
+        (4, 2),
+        (6, 1),
+        (16, 1),
+        (24, 0),
+        (31, 0x40),
+        (48, 1),
+    ];
     for (at, byte) in of_owned {
         assert_eq!(rt;
             Header::decode(0x0102_0304, &with_byte(owned_bytes(), at, byte)),

@@ -1,4 +1,4 @@
-use Rattle.std.proofs.Common.{◌≡◌, Bool, false, true, List, set, take, ap, ◌∙◌}
+use Rattle.std.proofs.Common.{◌≡◌, false, true, set, take, ap, ◌∙◌}
 use Rattle.ds_bitmap.specs.Bits.{Bitmap}
 use Rattle.ds_bitmap.proofs.Packed.{put_front}
 use Rattle.ds_bitmap.proofs.bits.Bits.give.Goals as goal

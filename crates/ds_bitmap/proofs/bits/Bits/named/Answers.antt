@@ -10,5 +10,5 @@ returns-clause-named c = λ b h e.
     let most : length b.used ≤ 3840 = omega (arith, c.items_of_each.ensures.most) in
     let bits = names_bits c.args.sector.now.bytes c.read-parts.result b c.read-parts.ensures.fits cluster most c.read-parts.ensures.parts e in
     let used : take c.items_of_each.result c.unpacked-used.result ≡ b.used =
-        unpacked_same c.read-parts.result.bits b.used c.unpacked-used.result c.items_of_each.result bits count c.items_of_each.ensures.most c.unpacked-used.ensures.len c.unpacked-used.ensures.each in
+    unpacked_same c.read-parts.result.bits b.used c.unpacked-used.result c.items_of_each.result bits count c.items_of_each.ensures.most c.unpacked-used.ensures.len c.unpacked-used.ensures.each in
     same_bitmap _ b (sym h.same_kind) (sym h.same_cluster) used
