@@ -7,3 +7,6 @@ mod Granted
 mod Pages
 mod FreeBlocks
 mod FreshTree
+mod Changed
+mod MakeKeeps
+mod RemoveKeeps
