@@ -59,3 +59,39 @@ keep t u a x b y ch P all at_x at_y n =
       | is_b e is ↦ subst P (sym is) at_y
       | is_other na nb is ↦ subst P (sym is) (all n)
     ]
+
+-- u is t with x at a
+pub record ChangedOne (t u : FileTree) (a : ℕ) (x : Object) : Type 0 where
+  pub at_a : object_at u a ≡ x
+  pub others : (m : ℕ) → m ≢ a → object_at u m ≡ object_at t m
+  pub count : length u.objects ≡ length t.objects
+  pub sums : (f : Object → ℕ) → sum_by f u.objects + f (object_at t a) ≡ sum_by f t.objects + f x
+
+pub changed_one : (t : FileTree) (a : ℕ) (x : Object) → a < length t.objects → ChangedOne t (with_object t a x) a x
+changed_one t a x in_a = record {
+  at_a = with_object-here t a x in_a;
+  others = λ m na. with_object-there t a m x na;
+  count = length-set t.objects a x;
+  sums = λ f. sum_by-set f t.objects a x unborn in_a
+}
+
+-- whether a number is the changed one
+pub data Whether (t u : FileTree) (a : ℕ) (x : Object) (n : ℕ) : Type 0 where
+  is_it : n ≡ a → object_at u n ≡ x → Whether t u a x n
+  is_not : n ≢ a → object_at u n ≡ object_at t n → Whether t u a x n
+
+pub whether_is : (t u : FileTree) (a : ℕ) (x : Object) → ChangedOne t u a x → (n : ℕ) → Whether t u a x n
+whether_is t u a x ch n =
+    elim (eqb_tells n a) [
+      | inl p ↦ is_it p.1 (ap (object_at u) p.1 ∙ ch.at_a)
+      | inr p ↦ is_not p.1 (ch.others n p.1)
+    ]
+
+-- what each object keeps
+pub keep_one : (t u : FileTree) (a : ℕ) (x : Object) → ChangedOne t u a x → (P : Object → Type 0)
+    → ((n : ℕ) → P (object_at t n)) → P x → (n : ℕ) → P (object_at u n)
+keep_one t u a x ch P all at_x n =
+    elim (whether_is t u a x ch n) [
+      | is_it e is ↦ subst P (sym is) at_x
+      | is_not na is ↦ subst P (sym is) (all n)
+    ]

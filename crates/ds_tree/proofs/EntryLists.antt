@@ -175,3 +175,19 @@ len-there m k o there = go (maps.len m) refl
     go : (n : ℕ) → maps.len m ≡ n → 1 ≤ maps.len m
     go zero e = let none : None ≡ Some o = sym (get_empty k) ∙ ap (λ x. maps.get x k) (sym (maps.empty_of_len m e)) ∙ there in absurd (cc)
     go (suc n) e = omega (arith, e)
+
+-- what was absent stays so where an entry goes
+pub get-remove_none : (m : Map) (k q : List ℕ) → maps.get m q ≡ None → maps.get (maps.remove m k) q ≡ None
+get-remove_none m k q absent = maps.get-remove nat_list_cmp_total m k q ∙ go (eq_by_cmp cmp q k)
+  where
+    go : (b : Bool) → cond b None (maps.get m q) ≡ None
+    go true = refl
+    go false = absent
+
+-- two names are equal, or they are not
+pub same_key : (q k : List ℕ) → (q ≡ k) ⊎ (¬ (q ≡ k))
+same_key q k = go (eq_by_cmp cmp q k) refl
+  where
+    go : (b : Bool) → eq_by_cmp cmp q k ≡ b → (q ≡ k) ⊎ (¬ (q ≡ k))
+    go true e = inl (same q k (equal _ e))
+    go false e = inr (λ is. let both : true ≡ false = sym (ap (λ x. eq_by_cmp cmp x k) is ∙ eq_here k) ∙ e in cc)

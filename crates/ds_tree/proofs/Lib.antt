@@ -10,3 +10,5 @@ mod FreshTree
 mod Changed
 mod MakeKeeps
 mod RemoveKeeps
+mod RenameInsideKeeps
+mod RenameAcrossKeeps

@@ -23,7 +23,7 @@ use Rattle.ds_tree.proofs.FreshTree.{the_dir}
 use Rattle.ds_tree.proofs.ObjectLists.{in_range}
 
 -- a room for one more entry
-more_rooms : (len rooms rooms' : ℕ) → rooms' ≡ (let b : Bool = nat_le rooms len in cond b (rooms + 4) rooms) → len ≤ rooms → len < 384 → rooms ≤ 384 → rooms % 4 ≡ 0
+pub more_rooms : (len rooms rooms' : ℕ) → rooms' ≡ (let b : Bool = nat_le rooms len in cond b (rooms + 4) rooms) → len ≤ rooms → len < 384 → rooms ≤ 384 → rooms % 4 ≡ 0
     → (len + 1 ≤ rooms') × (rooms' ≤ 384) × (rooms' % 4 ≡ 0)
 more_rooms len rooms rooms' e a b c d = go (nat_le rooms len) refl e
   where

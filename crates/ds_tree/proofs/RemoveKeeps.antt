@@ -16,7 +16,7 @@ use Rattle.ds_tree.proofs.Changed.{Changed, changed, Where, is_a, is_b, is_other
 use Rattle.ds_tree.proofs.EntryLists.{get_empty, removed, get-remove_other, len-remove_there}
 use Rattle.ds_tree.proofs.ObjectLists.{in_range}
 
-same_uses : (q : Kind) (es es' : Entries) (rooms : ℕ) → node_uses q (Some (Dir es rooms)) ≡ node_uses q (Some (Dir es' rooms))
+pub same_uses : (q : Kind) (es es' : Entries) (rooms : ℕ) → node_uses q (Some (Dir es rooms)) ≡ node_uses q (Some (Dir es' rooms))
 same_uses Fd es es' rooms = refl
 same_uses Sb es es' rooms = refl
 same_uses Pb es es' rooms = refl
