@@ -12,3 +12,5 @@ mod MakeKeeps
 mod RemoveKeeps
 mod RenameInsideKeeps
 mod RenameAcrossKeeps
+mod ResizeKeeps
+mod StepKeeps

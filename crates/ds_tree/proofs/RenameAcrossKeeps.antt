@@ -16,14 +16,10 @@ use Rattle.ds_tree.specs.Trees.{entries_of}
 use Rattle.ds_tree.specs.WellFormed.{IsTree, IsDir, AreNamedOnce, Names, Reached, root, entry}
 use Rattle.ds_tree.proofs.Changed.{Changed, changed, Where, is_a, is_b, is_other, where_is, keep}
 use Rattle.ds_tree.proofs.EntryLists.{get_empty, inserted, removed, get-insert_here, get-insert_other, get-remove_other, len-insert_new, len-remove_there}
+use Rattle.ds_tree.proofs.Granted.{file_names}
 use Rattle.ds_tree.proofs.MakeKeeps.{more_rooms}
 use Rattle.ds_tree.proofs.ObjectLists.{in_range}
 use Rattle.ds_tree.proofs.RemoveKeeps.{same_uses}
-
-file_names : (n : Option Node) → is_dir n ≡ false → entries_of n ≡ maps.empty
-file_names None h = refl
-file_names (Some (File blocks)) h = refl
-file_names (Some (Dir entries rooms)) h = absurd (cc)
 
 module _ (g : Geom) (t : FileTree) (is : IsTree g t) (d k to : ℕ) (entries : Entries) (rooms : ℕ) (entries' : Entries) (rooms' : ℕ) (name fresh : List ℕ)
     (in_dir : node_at t d ≡ Some (Dir entries rooms)) (in_to : node_at t to ≡ Some (Dir entries' rooms')) (apart : d ≢ to)
