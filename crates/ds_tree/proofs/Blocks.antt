@@ -2,19 +2,9 @@
 use Rattle.std.proofs.Common.{◌≡◌, ℕ, ◌+◌, ◌*◌, ◌<◌, ◌≤◌, ◌-◌, suc, zero, min, cond, Bool, true, false, List, [], ◌∷◌, ◌++◌, length, take, drop, filter, add-one, length-append, refl, sym, ap, subst, ◌∙◌, arith, slice_index_or}
 use Rattle.std.specs.Prelude.{All, Result, Ok, Err, IsOk, OnOk}
 use Rattle.std.specs.List.{flat_map, list_any, range_with_len, slice_range}
-use Rattle.std.proofs.lemmas.List.Folds.{length-flat_map-take}
-use Rattle.std.proofs.lemmas.List.Concat.{get_or-flat_map}
 use Rattle.std.proofs.lemmas.List.{take_min, drop_min, length-take, length-drop, take_all, take-append-le, append-nil, get_or_default}
 use Rattle.std.proofs.lemmas.List.Elements.{filter-append}
 use Rattle.std.proofs.Math.Nat.{min_comm}
-
--- what holds of all pieces holds of each
-pub All-piece : {X A : Type 0} (P : A → Type 0) (f : X → List A) (xs : List X) (i : ℕ) (d : X) → i < length xs
-    → All P (flat_map f xs) → All P (f (slice_index_or xs i d))
-All-piece P f xs i d within all = λ k e h.
-    let fits = length-flat_map-take f xs i d within in
-    let there : length (flat_map f (take i xs)) + k < length (flat_map f xs) = omega (arith, fits) in
-    subst P (get_or-flat_map f xs i k d e within h) (all (length (flat_map f (take i xs)) + k) e there)
 
 -- a page of a list, cut within its bounds
 pub page-cut : (xs : List ℕ) (from : ℕ)

@@ -1,10 +1,10 @@
 -- A list of entries in the order of their keys, as a map of std gives it, and the finite map that it stands for.
-use Rattle.std.proofs.Common.{◌≡◌, ℕ, Bool, true, false, cond, ◌&&◌, T, List, [], ◌∷◌, map, length, refl, sym, ap, subst, ◌∙◌, arith}
-use Rattle.std.specs.Prelude.{Option, Some, None, slice_get}
+use Rattle.std.proofs.Common.{◌≡◌, ℕ, Bool, true, false, cond, ◌&&◌, T, List, [], ◌∷◌, map, length, refl, sym, ap, subst, ◌∙◌, ◌+◌, ◌-◌, ◌≤◌, suc, zero, ◌⊎◌, inl, inr, arith}
+use Rattle.std.specs.Prelude.{Option, Some, None, slice_get, is_some}
 use Rattle.std.specs.declared.cmp.Ordering.{Ordering}
 use Rattle.std.specs.declared.cmp.Ordering.TheVariants.{Less, Equal, Greater}
 use Rattle.std.specs.Ordering.{nat_cmp, is_lt, is_eq, eq_by_cmp}
-use Rattle.std.specs.Cmp.{eq_by_cmp_equiv}
+use Rattle.std.specs.Cmp.{eq_by_cmp_equiv, tied_itself}
 use Rattle.std.specs.Cmp.Lexicographic.{slice_cmp, nat_list_cmp_total}
 use Rattle.std.specs.List.{AllByRecursion}
 use Rattle.std.specs.List.Sorted.{IsStrictlySortedBy}
@@ -123,3 +123,71 @@ remove-insert m name fresh v w there absent = maps.same_map nat_list_cmp_total s
         cc)
     ∙ ap (cond (eq_by_cmp cmp q fresh) (Some v)) (sym (maps.get-remove nat_list_cmp_total m name q))
     ∙ sym (maps.get-insert nat_list_cmp_total (maps.remove m name) fresh v q))
+
+eq_here : (k : List ℕ) → eq_by_cmp cmp k k ≡ true
+eq_here k = ap is_eq (tied_itself nat_list_cmp_total k)
+
+-- an entry that is there after one was put is that one, or was there before
+pub inserted : (m : Map) (k : List ℕ) (v : ℕ) (q : List ℕ) (o : ℕ) → maps.get (maps.insert m k v) q ≡ Some o → ((q ≡ k) × (o ≡ v)) ⊎ (maps.get m q ≡ Some o)
+inserted m k v q o h = go (eq_by_cmp cmp q k) refl (sym (maps.get-insert nat_list_cmp_total m k v q) ∙ h)
+  where
+    go : (b : Bool) → eq_by_cmp cmp q k ≡ b → cond b (Some v) (maps.get m q) ≡ Some o → ((q ≡ k) × (o ≡ v)) ⊎ (maps.get m q ≡ Some o)
+    go true e is = let same_value : o ≡ v = cc in inl (same q k (equal _ e), same_value)
+    go false e is = inr is
+
+pub get-insert_here : (m : Map) (k : List ℕ) (v : ℕ) → maps.get (maps.insert m k v) k ≡ Some v
+get-insert_here m k v = maps.get-insert nat_list_cmp_total m k v k ∙ ap (λ b. cond b (Some v) (maps.get m k)) (eq_here k)
+
+-- an entry stays where one with a new name is put
+pub get-insert_other : (m : Map) (k : List ℕ) (v : ℕ) (q : List ℕ) (o : ℕ) → maps.get m k ≡ None → maps.get m q ≡ Some o → maps.get (maps.insert m k v) q ≡ Some o
+get-insert_other m k v q o absent there = maps.get-insert nat_list_cmp_total m k v q ∙ go (eq_by_cmp cmp q k) refl
+  where
+    go : (b : Bool) → eq_by_cmp cmp q k ≡ b → cond b (Some v) (maps.get m q) ≡ Some o
+    go true e = let both : Some o ≡ None = sym there ∙ ap (maps.get m) (same q k (equal _ e)) ∙ absent in absurd (cc)
+    go false e = there
+
+pub len-insert_new : (m : Map) (k : List ℕ) (v : ℕ) → maps.get m k ≡ None → maps.len (maps.insert m k v) ≡ maps.len m + 1
+len-insert_new m k v absent = maps.len-insert nat_list_cmp_total m k v ∙ ap (λ o. cond (is_some o) (maps.len m) (maps.len m + 1)) absent
+
+-- an entry that is there after another went was there before, under another name
+pub removed : (m : Map) (k q : List ℕ) (o : ℕ) → maps.get (maps.remove m k) q ≡ Some o → (¬ (q ≡ k)) × (maps.get m q ≡ Some o)
+removed m k q o h = go (eq_by_cmp cmp q k) refl (sym (maps.get-remove nat_list_cmp_total m k q) ∙ h)
+  where
+    go : (b : Bool) → eq_by_cmp cmp q k ≡ b → cond b None (maps.get m q) ≡ Some o → (¬ (q ≡ k)) × (maps.get m q ≡ Some o)
+    go true e is = absurd (cc)
+    go false e is = (λ same_key. let both : true ≡ false = sym (ap (λ x. eq_by_cmp cmp x k) same_key ∙ eq_here k) ∙ e in cc, is)
+
+-- an entry stays where another goes
+pub get-remove_other : (m : Map) (k q : List ℕ) (o : ℕ) → ¬ (q ≡ k) → maps.get m q ≡ Some o → maps.get (maps.remove m k) q ≡ Some o
+get-remove_other m k q o differs there = maps.get-remove nat_list_cmp_total m k q ∙ go (eq_by_cmp cmp q k) refl
+  where
+    go : (b : Bool) → eq_by_cmp cmp q k ≡ b → cond b None (maps.get m q) ≡ Some o
+    go true e = absurd (differs (same q k (equal _ e)))
+    go false e = there
+
+pub len-remove_there : (m : Map) (k : List ℕ) (o : ℕ) → maps.get m k ≡ Some o → maps.len (maps.remove m k) ≡ maps.len m - 1
+len-remove_there m k o there = maps.len-remove nat_list_cmp_total m k ∙ ap (λ x. cond (is_some x) (maps.len m - 1) (maps.len m)) there
+
+-- where an entry is, the length is not 0
+pub len-there : (m : Map) (k : List ℕ) (o : ℕ) → maps.get m k ≡ Some o → 1 ≤ maps.len m
+len-there m k o there = go (maps.len m) refl
+  where
+    go : (n : ℕ) → maps.len m ≡ n → 1 ≤ maps.len m
+    go zero e = let none : None ≡ Some o = sym (get_empty k) ∙ ap (λ x. maps.get x k) (sym (maps.empty_of_len m e)) ∙ there in absurd (cc)
+    go (suc n) e = omega (arith, e)
+
+-- what was absent stays so where an entry goes
+pub get-remove_none : (m : Map) (k q : List ℕ) → maps.get m q ≡ None → maps.get (maps.remove m k) q ≡ None
+get-remove_none m k q absent = maps.get-remove nat_list_cmp_total m k q ∙ go (eq_by_cmp cmp q k)
+  where
+    go : (b : Bool) → cond b None (maps.get m q) ≡ None
+    go true = refl
+    go false = absent
+
+-- two names are equal, or they are not
+pub same_key : (q k : List ℕ) → (q ≡ k) ⊎ (¬ (q ≡ k))
+same_key q k = go (eq_by_cmp cmp q k) refl
+  where
+    go : (b : Bool) → eq_by_cmp cmp q k ≡ b → (q ≡ k) ⊎ (¬ (q ≡ k))
+    go true e = inl (same q k (equal _ e))
+    go false e = inr (λ is. let both : true ≡ false = sym (ap (λ x. eq_by_cmp cmp x k) is ∙ eq_here k) ∙ e in cc)

@@ -7,3 +7,10 @@ mod Granted
 mod Pages
 mod FreeBlocks
 mod FreshTree
+mod Changed
+mod MakeKeeps
+mod RemoveKeeps
+mod RenameInsideKeeps
+mod RenameAcrossKeeps
+mod ResizeKeeps
+mod StepKeeps

@@ -1,13 +1,12 @@
 -- The rules of a file tree.
-use Rattle.std.specs.Prelude.{◌≡◌, ◌≢◌, ℕ, ◌≤◌, ◌<◌, ◌%◌, ◌↔◌, true, nat_eq, List, length, All, Contains, Option, Some, None, IsSome}
-use Rattle.std.specs.List.{IsDistinct}
+use Rattle.std.specs.Prelude.{◌≡◌, ℕ, ◌≤◌, ◌<◌, ◌%◌, true, List, length, slice_get, All, Option, Some, IsSome}
 use Rattle.std.specs.FinMap as maps
 use Rattle.ds_base.specs.declared.geometry.Geom.{Geom}
 use Rattle.ds_base.specs.declared.geometry.Kind.{Kind}
 use Rattle.ds_base.specs.declared.geometry.Kind.TheVariants.{Fd, Fb}
 use Rattle.ds_base.specs.Geometry.{items_of}
 use Rattle.ds_base.specs.Names.{IsName}
-use Rattle.ds_tree.specs.Nodes.{Entries, Dir, File, FileTree, node_at, birth_at, all_blocks}
+use Rattle.ds_tree.specs.Nodes.{Entries, Dir, File, FileTree, node_at, birth_at, blocks_of}
 use Rattle.ds_tree.specs.Counts.{used_of}
 use Rattle.ds_tree.specs.Steps.{is_dir}
 use Rattle.ds_tree.specs.Trees.{entries_of}
@@ -35,6 +34,11 @@ pub record AreNamedOnce (t : FileTree) : Type 0 where
   pub once : (dir dir' : ℕ) (name name' : List ℕ) (object : ℕ) → Names t dir name object → Names t dir' name' object
       → (dir ≡ dir') × (name ≡ name')
 
+-- no block stands in two places
+abbrev pub AreApart : FileTree → Type 0
+AreApart t = (n m i j b : ℕ) → slice_get (blocks_of (node_at t n)) i ≡ Some b → slice_get (blocks_of (node_at t m)) j ≡ Some b
+    → (n ≡ m) × (i ≡ j)
+
 pub record IsTree (g : Geom) (t : FileTree) : Type 0 where
   pub count : length t.objects ≡ items_of g Fd
   pub root_dir : is_dir (node_at t 0) ≡ true
@@ -44,6 +48,6 @@ pub record IsTree (g : Geom) (t : FileTree) : Type 0 where
   pub files : (n : ℕ) (blocks : List ℕ) → node_at t n ≡ Some (File blocks) → length blocks ≤ 12288
   pub named_once : AreNamedOnce t
   pub reached : (n : ℕ) → IsSome (node_at t n) → Reached t n
-  pub blocks_apart : IsDistinct nat_eq (all_blocks t)
-  pub blocks_in_range : All (λ b. b < items_of g Fb) (all_blocks t)
+  pub blocks_apart : AreApart t
+  pub blocks_in_range : (n : ℕ) → All (λ b. b < items_of g Fb) (blocks_of (node_at t n))
   pub within : (kind : Kind) → used_of t kind ≤ items_of g kind

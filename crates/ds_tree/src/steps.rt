@@ -22,6 +22,7 @@ impl Tree {
         ensures step { IfOk result (λ reply. Does self.old.geom self.old.tree call.now reply self.new.tree) }
         ensures lowest { refusal self.old.geom self.old.tree call.now ≡ None
             → IfOk result (λ reply. TakesLowest self.old.geom self.old.tree call.now reply self.new.tree) }
+        ensures keeps { IsTree self.new.geom self.new.tree }
         ensures err { OnErr result (self.new.tree ≡ self.old.tree) }
     {
         match self.refusal(call) {
