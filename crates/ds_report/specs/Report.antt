@@ -13,8 +13,7 @@ use Rattle.ds_tree.specs.FirstForm.{line}
 use Rattle.ds_tree.specs.Nodes.{FileTree}
 use Rattle.ds_world.specs.declared.logs.Event.{Event}
 use Rattle.ds_world.specs.declared.logs.Reply.{Reply}
-use Rattle.ds_world.specs.declared.logs.Step.{Step}
-use Rattle.ds_world.specs.declared.logs.Step.TheVariants.{Local, Sent}
+use Rattle.ds_world.specs.Store.{change_count}
 use Rattle.ds_world.specs.Scripts.{directive_at}
 use Rattle.ds_report.specs.Answers.{answer_text, place_text}
 use Rattle.ds_report.specs.Listing.{listing_of}
@@ -71,15 +70,6 @@ event_part s replies e = flat_map (λ r. reply_line s r) (given_in replies e.0) 
 -- a part for each event, in order
 abbrev pub parts_of : Scenario → List Event → List Reply → List ℕ
 parts_of s events replies = flat_map (λ e. event_part s replies e) (enumerate_from 0 events)
-
--- whether a step is a Swap that took effect
-abbrev pub has_taken : Step → Bool
-has_taken Local = false
-has_taken (Sent under command response landed took) = took
-
--- how many events changed the volume
-abbrev pub change_count : List Event → ℕ
-change_count events = count_by (λ e. has_taken e.step) events
 
 -- the report of a run of a scenario that ended with this tree
 abbrev pub report_of : Scenario → List Event → List Reply → FileTree → List ℕ

@@ -1,7 +1,8 @@
 //! The report of a run.
 ghost use Rattle.std.specs.Prelude.{◌≡◌, ◌++◌, length, take, OnOk, IfOk, codes, decimal};
 ghost use Rattle.std.specs.List.{flat_map};
-ghost use Rattle.ds_report.specs.Report.{AreInOrder, report_of, parts_of, given_in, change_count, has_taken, death_line, reply_line};
+ghost use Rattle.ds_world.specs.Store.{change_count, has_taken};
+ghost use Rattle.ds_report.specs.Report.{AreInOrder, report_of, parts_of, given_in, death_line, reply_line};
 ghost use Rattle.ds_tree.specs.FirstForm.{line};
 
 use crate::growing::Growing;
