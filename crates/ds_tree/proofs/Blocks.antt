@@ -1,7 +1,7 @@
 -- Which blocks files have.
-use Rattle.std.proofs.Common.{◌≡◌, ℕ, ◌+◌, ◌*◌, ◌<◌, ◌≤◌, ◌-◌, suc, zero, min, cond, Bool, true, false, List, [], ◌∷◌, ◌++◌, length, take, drop, filter, add-one, length-append, refl, sym, ap, subst, ◌∙◌, arith, slice_index_or}
-use Rattle.std.specs.Prelude.{All, Result, Ok, Err, IsOk, OnOk}
-use Rattle.std.specs.List.{flat_map, list_any, range_with_len, slice_range}
+use Rattle.std.proofs.Common.{◌≡◌, ℕ, ◌+◌, ◌<◌, ◌≤◌, ◌-◌, suc, zero, min, cond, Bool, true, false, List, [], ◌∷◌, ◌++◌, length, take, drop, filter, add-one, length-append, sym, ap, ◌∙◌, arith, slice_index_or}
+use Rattle.std.specs.Prelude.{Result, Ok, Err, IsOk, OnOk}
+use Rattle.std.specs.List.{range_with_len, slice_range}
 use Rattle.std.proofs.lemmas.List.{take_min, drop_min, length-take, length-drop, take_all, take-append-le, append-nil, get_or_default}
 use Rattle.std.proofs.lemmas.List.Elements.{filter-append}
 use Rattle.std.proofs.Math.Nat.{min_comm}

@@ -1,5 +1,5 @@
 -- Trees in which one or two objects changed.
-use Rattle.std.proofs.Common.{◌≡◌, ◌≢◌, ℕ, ◌+◌, ◌<◌, Bool, true, false, ◌⊎◌, inl, inr, List, length, refl, sym, ap, subst, ◌∙◌, arith, slice_index_or}
+use Rattle.std.proofs.Common.{◌≡◌, ◌≢◌, ℕ, ◌+◌, ◌<◌, inl, inr, length, sym, ap, subst, ◌∙◌, arith}
 use Rattle.std.proofs.Math.ListN.{length-set}
 use Rattle.std.proofs.lemmas.Bool.Decides.{eqb_tells}
 use Rattle.std.proofs.lemmas.List.Sums.{sum_by-set}
@@ -31,7 +31,7 @@ changed t a b x y apart in_a in_b =
           let one = sum_by-set f t.objects a x unborn in_a in
           let two = sum_by-set f t1.objects b y unborn in_b1 in
           let same : f (object_at t1 b) ≡ f (object_at t b) = ap f b_there in
-          omega (arith, one, two, same)
+          omega (arith, one, two, same);
     }
 
 -- where a number stands among the changed ones
@@ -72,7 +72,7 @@ changed_one t a x in_a = record {
   at_a = with_object-here t a x in_a;
   others = λ m na. with_object-there t a m x na;
   count = length-set t.objects a x;
-  sums = λ f. sum_by-set f t.objects a x unborn in_a
+  sums = λ f. sum_by-set f t.objects a x unborn in_a;
 }
 
 -- whether a number is the changed one

@@ -118,9 +118,9 @@ remove-insert m name fresh v w there absent = maps.same_map nat_list_cmp_total s
     maps.get-remove nat_list_cmp_total (maps.insert m fresh v) name q
     ∙ ap (cond (eq_by_cmp cmp q name) None) (maps.get-insert nat_list_cmp_total m fresh v q)
     ∙ apart (eq_by_cmp cmp q name) (eq_by_cmp cmp q fresh) None (Some v) (maps.get m q) (λ at_name at_fresh.
-        let e : name ≡ fresh = sym (same q name (equal _ at_name)) ∙ same q fresh (equal _ at_fresh) in
-        let both : Some w ≡ None = sym there ∙ ap (maps.get m) e ∙ absent in
-        cc)
+    let e : name ≡ fresh = sym (same q name (equal _ at_name)) ∙ same q fresh (equal _ at_fresh) in
+    let both : Some w ≡ None = sym there ∙ ap (maps.get m) e ∙ absent in
+    cc)
     ∙ ap (cond (eq_by_cmp cmp q fresh) (Some v)) (sym (maps.get-remove nat_list_cmp_total m name q))
     ∙ sym (maps.get-insert nat_list_cmp_total (maps.remove m name) fresh v q))
 

@@ -1,11 +1,11 @@
 -- The free blocks: no two are equal, none is a file's, and there are as many as the counts say.
-use Rattle.std.proofs.Common.{◌≡◌, ◌≢◌, ℕ, suc, zero, ◌+◌, ◌-◌, ◌<◌, ◌≤◌, min, cond, Bool, true, false, List, [], ◌∷◌, length, take, filter, nat_eq, refl, sym, ap, subst, ◌∙◌, arith, slice_index_or}
+use Rattle.std.proofs.Common.{◌≡◌, ◌≢◌, ℕ, suc, zero, ◌+◌, ◌<◌, ◌≤◌, cond, Bool, true, false, List, [], ◌∷◌, length, take, filter, nat_eq, refl, sym, ap, subst, ◌∙◌, arith}
 use Rattle.std.specs.Prelude.{All, Contains, not, Option, Some, None}
 use Rattle.std.specs.List.{AllByRecursion, IsDistinct, list_any, range_with_len, sum_by, flat_map}
 use Rattle.std.proofs.lemmas.Bool.{ne_eqb, eq-eqb, eqb-true, false≢true}
 use Rattle.std.proofs.lemmas.Cmp.{nat_eq_equiv}
 use Rattle.std.proofs.lemmas.List.{length-take, length-append}
-use Rattle.std.proofs.lemmas.List.Elements.{filter_passes, All-filter, All-take, All-weaker, All-contains}
+use Rattle.std.proofs.lemmas.List.Elements.{filter_passes, All-filter, All-take, All-weaker}
 use Rattle.std.proofs.lemmas.List.Folds.{list_any-from_Any, Any-from_list_any}
 use Rattle.std.proofs.lemmas.List.Filters.{length-filter_both}
 use Rattle.std.proofs.lemmas.List.FromFn.{length-range_with_len, get_or-range_with_len}
@@ -15,7 +15,7 @@ use Rattle.ds_base.specs.declared.geometry.Geom.{Geom}
 use Rattle.ds_base.specs.declared.geometry.Kind.TheVariants.{Fb}
 use Rattle.ds_base.specs.Geometry.{items_of}
 use Rattle.ds_tree.specs.Nodes.{Node, Dir, File, Object, FileTree, blocks_of, all_blocks}
-use Rattle.ds_tree.specs.Counts.{node_uses, used_of, free_of}
+use Rattle.ds_tree.specs.Counts.{node_uses, free_of}
 use Rattle.ds_tree.specs.Lowest.{free_blocks}
 
 apart-above : (p : ℕ → Bool) (x a n : ℕ) → x < a → AllByRecursion (λ y. nat_eq x y ≡ false) (filter p (range_with_len a n))
@@ -64,15 +64,13 @@ not_held xs b none held =
     false≢true (sym none ∙ list_any-from_Any (nat_eq b) xs (held.0, b, held.1, held.2, eq-eqb b b refl))
 
 module _ (g : Geom) (t : FileTree) where
-
-
   pub free-in_range : (k : ℕ) → All (λ b. b < items_of g Fb) (take k (free_blocks g t))
   free-in_range k = All-take (λ b. b < items_of g Fb) k (free_blocks g t) (All-filter _ (λ b. b < items_of g Fb) (range_with_len 0 (items_of g Fb)) (below (items_of g Fb)))
 
   pub free-not_held : (k : ℕ) → All (λ b. ¬ Contains (all_blocks t) b) (take k (free_blocks g t))
   free-not_held k = All-take (λ b. ¬ Contains (all_blocks t) b) k (free_blocks g t)
       (All-weaker (λ b. not (list_any (nat_eq b) (all_blocks t)) ≡ true) (λ b. ¬ Contains (all_blocks t) b)
-          (λ b passes. not_held (all_blocks t) b (not_true _ passes)) (free_blocks g t) (filter_passes _ (range_with_len 0 (items_of g Fb))))
+      (λ b passes. not_held (all_blocks t) b (not_true _ passes)) (free_blocks g t) (filter_passes _ (range_with_len 0 (items_of g Fb))))
 
   pub free-apart : (k : ℕ) → IsDistinct nat_eq (take k (free_blocks g t))
   free-apart k = take-apart k (free_blocks g t) (apart-numbers _ 0 (items_of g Fb))
@@ -100,7 +98,7 @@ free-enough g t =
     let held = filter (λ b. list_any (nat_eq b) blocks) numbers in
     let few : length held ≤ length blocks = length-le_from_is_member nat_eq_equiv held blocks (apart-numbers _ 0 (items_of g Fb)) (held-only blocks numbers) in
     let both : length held + length (free_blocks g t) ≡ length numbers =
-        length-filter_both (λ b. list_any (nat_eq b) blocks) (λ b. not (list_any (nat_eq b) blocks)) (λ b. refl) numbers in
+    length-filter_both (λ b. list_any (nat_eq b) blocks) (λ b. not (list_any (nat_eq b) blocks)) (λ b. refl) numbers in
     omega (arith, few, both, length-range_with_len 0 (items_of g Fb), used-length t.objects)
 
 pub free-length : (g : Geom) (t : FileTree) (k : ℕ) → k ≤ free_of g t Fb → length (take k (free_blocks g t)) ≡ k

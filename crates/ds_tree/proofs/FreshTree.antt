@@ -1,5 +1,5 @@
 -- The tree of a new volume keeps the rules.
-use Rattle.std.proofs.Common.{◌≡◌, ℕ, suc, zero, ◌+◌, ◌-◌, ◌%◌, ◌<◌, ◌≤◌, List, [], ◌∷◌, ◌++◌, length, replicate, inl, inr, refl, sym, ap, subst, ◌∙◌, arith, slice_index_or}
+use Rattle.std.proofs.Common.{◌≡◌, ℕ, suc, zero, ◌+◌, ◌-◌, ◌%◌, ◌<◌, ◌≤◌, List, [], ◌∷◌, length, replicate, inl, inr, refl, sym, ap, subst, ◌∙◌, arith, slice_index_or}
 use Rattle.std.specs.Prelude.{Option, Some, None, IsSome, All}
 use Rattle.std.specs.List.{sum_by}
 use Rattle.std.specs.FinMap as maps
@@ -12,12 +12,11 @@ use Rattle.ds_base.specs.declared.geometry.Kind.{Kind}
 use Rattle.ds_base.specs.declared.geometry.Kind.TheVariants.{Fd, Sb, Pb, Fb}
 use Rattle.ds_base.specs.Geometry.{IsGeom, items_of}
 use Rattle.ds_tree.specs.Counts.{node_uses, used_of}
-use Rattle.ds_tree.specs.Nodes.{Entries, Node, Dir, File, Object, FileTree, unborn, object_at, node_at, birth_at, blocks_of, fresh_tree}
+use Rattle.ds_tree.specs.Nodes.{Entries, Node, Dir, File, Object, unborn, node_at, birth_at, blocks_of, fresh_tree}
 use Rattle.ds_tree.specs.Trees.{entries_of}
-use Rattle.ds_tree.specs.WellFormed.{IsTree, IsDir, AreNamedOnce, Names, Reached, root}
+use Rattle.ds_tree.specs.WellFormed.{IsTree, IsDir, Names, Reached, root}
 use Rattle.ds_tree.proofs.EntryLists.{cmp, get_empty}
 use Rattle.ds_tree.proofs.GeometryBounds.{items_of-positive, length-first_and_rest}
-use Rattle.ds_tree.proofs.ObjectLists.{in_range}
 
 abbrev first : Object
 first = record { birth = 1; node = Some (Dir maps.empty 0) }
@@ -58,7 +57,7 @@ the_dir entries rooms e =
           absurd (cc);
       have_rooms = omega (arith, len);
       most = omega (arith, b);
-      by_four = ap (λ r. r % 4) (sym b)
+      by_four = ap (λ r. r % 4) (sym b);
     }
 
 module _ (g : Geom) (is : IsGeom g) where
@@ -115,13 +114,13 @@ module _ (g : Geom) (is : IsGeom g) where
         named_once = record {
           used = λ n name object h. absurd (no_names n name object h);
           not_root = λ n name. no_names n name 0;
-          once = λ n n' name name' object h h'. absurd (no_names n name object h)
+          once = λ n n' name name' object h h'. absurd (no_names n name object h);
         };
         reached = λ n h. subst (Reached (fresh_tree g)) (sym (only_root n h)) root;
         blocks_apart = λ n m i j b h h'. absurd (no_block n i b h);
         blocks_in_range = λ n. subst (λ bs. All (λ b. b < items_of g Fb) bs) (sym (no_blocks n)) (All-nil (λ b. b < items_of g Fb));
         within = λ kind.
             let uses : used_of (fresh_tree g) kind ≡ node_uses kind first.node + sum_by (λ o. node_uses kind o.node) rest =
-                sum_by-cons (λ (o : Object). node_uses kind o.node) first rest in
-            omega (arith, uses, no_uses kind rest free, one_at_most kind, items_of-positive g kind is)
+            sum_by-cons (λ (o : Object). node_uses kind o.node) first rest in
+            omega (arith, uses, no_uses kind rest free, one_at_most kind, items_of-positive g kind is);
       }

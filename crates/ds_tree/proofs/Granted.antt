@@ -2,7 +2,7 @@
 use Rattle.std.proofs.Common.{◌≡◌, ◌≢◌, ℕ, ◌-◌, ◌<◌, ◌≤◌, Bool, true, false, List, length, refl, sym, ap, ◌∙◌, arith}
 use Rattle.std.specs.Prelude.{Option, Some, None, IsSome, is_some, is_none, not, ◌==◌, ◌&&◌, nat_le, nat_lt, if◌then◌else◌}
 use Rattle.std.proofs.lemmas.Bool.Decides.{nat_tests}
-use Rattle.std.proofs.lemmas.Bool.{eqb-false, eqb-true}
+use Rattle.std.proofs.lemmas.Bool.{eqb-false}
 use Rattle.std.specs.FinMap as maps
 use Rattle.ds_base.specs.declared.geometry.Geom.{Geom}
 use Rattle.ds_base.specs.declared.geometry.Kind.TheVariants.{Fd, Sb, Pb, Fb}
@@ -129,16 +129,18 @@ move-granted g t same name fresh entries entries' rooms' h =
       absent = c.0;
       file = λ e. moved_file same _ e b.0;
       few = λ e. few (maps.len entries') (refuse-none _ _ _ (across same _ e c.1)).0;
-      room = λ e. room-granted g t entries' rooms' (refuse-none _ _ _ (across same _ e c.1)).1
+      room = λ e. room-granted g t entries' rooms' (refuse-none _ _ _ (across same _ e c.1)).1;
     }
   where
     moved_file : (same dir : Bool) → same ≡ false → (dir && not same) ≡ false → dir ≡ false
     moved_file true dir e h = absurd (cc)
     moved_file false true e h = absurd (cc)
     moved_file false false e h = refl
+
     across : (same : Bool) (next : Option TreeReply) → same ≡ false → (if same then None else next) ≡ None → next ≡ None
     across true next e h = absurd (cc)
     across false next e h = h
+
     few : (n : ℕ) → nat_le 384 n ≡ false → n < 384
     few n h = grind (arith, nat_tests)
 
@@ -153,6 +155,7 @@ resize-granted g t size blocks h =
   where
     within : (n : ℕ) → nat_lt 12288 n ≡ false → n ≤ 12288
     within n h = grind (arith, nat_tests)
+
     not_less : (m n : ℕ) → nat_lt m n ≡ false → n ≤ m
     not_less m n h = grind (arith, nat_tests)
 
@@ -189,6 +192,7 @@ rmdir-granted t name entries rooms object h there =
   where
     zero_length : (n : ℕ) → nat_lt 0 n ≡ false → n ≡ 0
     zero_length n h = grind (arith, nat_tests)
+
     none : (n : Option Node) → has_entries n ≡ false → entries_of n ≡ maps.empty
     none None h = refl
     none (Some (File blocks)) h = refl

@@ -1,10 +1,9 @@
 -- A tree with a new object keeps the rules.
-use Rattle.std.proofs.Common.{◌≡◌, ◌≢◌, ℕ, ◌+◌, ◌-◌, ◌*◌, ◌/◌, ◌%◌, ◌<◌, ◌≤◌, cond, Bool, true, false, ◌⊎◌, inl, inr, List, [], ◌∷◌, length, refl, sym, ap, subst, ◌∙◌, arith}
-use Rattle.std.specs.Prelude.{Option, Some, None, IsSome, is_some, All, nat_le, slice_get}
+use Rattle.std.proofs.Common.{◌≡◌, ◌≢◌, ℕ, ◌+◌, ◌%◌, ◌<◌, ◌≤◌, cond, Bool, true, false, ◌⊎◌, inl, inr, List, [], length, refl, sym, ap, subst, ◌∙◌, arith}
+use Rattle.std.specs.Prelude.{Some, None, IsSome, is_some, All, nat_le, slice_get}
 use Rattle.std.proofs.lemmas.Bool.Decides.{nat_tests}
 use Rattle.std.proofs.lemmas.List.Elements.{All-nil}
 use Rattle.std.specs.FinMap as maps
-use Rattle.std.specs.Ordering.{eq_by_cmp}
 use Rattle.ds_base.specs.declared.geometry.Geom.{Geom}
 use Rattle.ds_base.specs.declared.geometry.Kind.{Kind}
 use Rattle.ds_base.specs.declared.geometry.Kind.TheVariants.{Fd, Sb, Pb, Fb}
@@ -13,10 +12,10 @@ use Rattle.ds_base.specs.declared.names.NodeKind.TheVariants as nodes
 use Rattle.ds_base.specs.Geometry.{items_of}
 use Rattle.ds_base.specs.Names.{IsName}
 use Rattle.ds_tree.specs.Counts.{node_uses, used_of, free_of}
-use Rattle.ds_tree.specs.Nodes.{Entries, Node, Dir, File, Object, FileTree, object_at, node_at, birth_at, blocks_of, with_object, with_node}
+use Rattle.ds_tree.specs.Nodes.{Entries, Node, Dir, File, Object, FileTree, node_at, birth_at, blocks_of, with_object}
 use Rattle.ds_tree.specs.Steps.{is_dir, is_full, rooms_with_one_more}
-use Rattle.ds_tree.specs.Trees.{entries_of, rooms_of, empty_node}
-use Rattle.ds_tree.specs.WellFormed.{IsTree, IsDir, AreNamedOnce, AreApart, Names, Reached, root, entry}
+use Rattle.ds_tree.specs.Trees.{entries_of, empty_node}
+use Rattle.ds_tree.specs.WellFormed.{IsTree, IsDir, AreNamedOnce, Names, Reached, root, entry}
 use Rattle.ds_tree.proofs.Changed.{Changed, changed, Where, is_a, is_b, is_other, where_is, keep}
 use Rattle.ds_tree.proofs.EntryLists.{get_empty, inserted, get-insert_here, get-insert_other, len-insert_new}
 use Rattle.ds_tree.proofs.FreshTree.{the_dir}
@@ -55,7 +54,6 @@ module _ (g : Geom) (t : FileTree) (is : IsTree g t) (d k birth : ℕ) (entries 
     (in_dir : node_at t d ≡ Some (Dir entries rooms)) (within_items : k < items_of g Fd) (free : node_at t k ≡ None) (later : birth_at t k < birth)
     (absent : maps.get entries name ≡ None) (few : maps.len entries < 384) (named : IsName name)
     (object : free_of g t Fd ≢ 0) (room : is_full entries rooms ≡ true → free_of g t Sb ≢ 0) where
-
   abbrev rooms' : ℕ
   rooms' = rooms_with_one_more entries rooms
 
@@ -113,7 +111,7 @@ module _ (g : Geom) (t : FileTree) (is : IsTree g t) (d k birth : ℕ) (entries 
         ];
         have_rooms = omega (arith, len, more.0);
         most = more.1;
-        by_four = more.2
+        by_four = more.2;
       }
 
   -- a name of the new tree is the new one, or one of the old tree
@@ -167,7 +165,7 @@ module _ (g : Geom) (t : FileTree) (is : IsTree g t) (d k birth : ℕ) (entries 
         | inl q ↦ absurd (not_new o q.2 (is.named_once.used m nm o p))
         | inr q ↦ is.named_once.once m m' nm nm' o p q
       ]
-    ]
+    ];
   }
 
   still_reached : (n : ℕ) → Reached t n → Reached u n
@@ -225,5 +223,5 @@ module _ (g : Geom) (t : FileTree) (is : IsTree g t) (d k birth : ℕ) (entries 
     blocks_apart = λ n m i j b h h'. is.blocks_apart n m i j b (block_stays n i b h) (block_stays m j b h');
     blocks_in_range = keep t u d x k y ch (λ o. All (λ b. b < items_of g Fb) (blocks_of o.node)) is.blocks_in_range
         (All-nil (λ b. b < items_of g Fb)) (subst (λ bs. All (λ b. b < items_of g Fb) bs) (sym (no_file kind)) (All-nil (λ b. b < items_of g Fb)));
-    within = within
+    within = within;
   }

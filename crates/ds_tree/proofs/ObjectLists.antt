@@ -3,15 +3,15 @@ use Rattle.std.proofs.lemmas.List.{get_or-set_same, get_or-set_other, set-set, s
 use Rattle.std.proofs.lemmas.Option.{slice_get_cases, unwrap_or-slice_get}
 use Rattle.std.proofs.lemmas.List.Sums.{sum_by-cons}
 use Rattle.std.proofs.lemmas.List.Elements.{All-head, All-tail, All-from_get_or}
-use Rattle.std.proofs.Common.{◌≡◌, ◌≢◌, ℕ, suc, ◌+◌, ◌-◌, ◌<◌, ◌≤◌, ◌^◌, Bool, true, false, List, [], ◌∷◌, length, inl, inr, refl, sym, ap, subst, ◌∙◌, arith}
-use Rattle.std.specs.Prelude.{Option, Some, None, IsSome, option_map, is_some, unwrap_or, slice_index_or, All}
+use Rattle.std.proofs.Common.{◌≡◌, ◌≢◌, ℕ, ◌<◌, true, false, List, [], ◌∷◌, length, inl, inr, refl, sym, ap, ◌∙◌, arith}
+use Rattle.std.specs.Prelude.{Option, Some, None, IsSome, option_map, is_some, unwrap_or, All}
 use Rattle.std.specs.List.{sum_by}
 use Rattle.ds_base.specs.declared.geometry.Geom.{Geom}
 use Rattle.ds_base.specs.declared.geometry.Kind.TheVariants.{Fd}
 use Rattle.ds_base.specs.declared.names.NodeKind.{NodeKind}
 use Rattle.ds_base.specs.Geometry.{items_of}
-use Rattle.ds_tree.specs.Nodes.{Entries, Node, Dir, File, Object, FileTree, unborn, object_at, node_at, birth_at, with_object, kind_of, blocks_of}
-use Rattle.ds_tree.specs.Counts.{node_uses, used_of, free_of}
+use Rattle.ds_tree.specs.Nodes.{Node, Dir, File, Object, FileTree, unborn, object_at, node_at, with_object, kind_of, blocks_of}
+use Rattle.ds_tree.specs.Counts.{node_uses, free_of}
 use Rattle.ds_tree.specs.Steps.{is_dir, is_file}
 use Rattle.ds_tree.specs.Trees.{entries_of, rooms_of}
 

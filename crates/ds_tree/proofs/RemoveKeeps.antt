@@ -1,6 +1,6 @@
 -- A tree without an entry and its object keeps the rules.
-use Rattle.std.proofs.Common.{◌≡◌, ◌≢◌, ℕ, ◌+◌, ◌-◌, ◌/◌, ◌%◌, ◌<◌, ◌≤◌, true, false, List, [], length, refl, sym, ap, subst, ◌∙◌, arith}
-use Rattle.std.specs.Prelude.{Option, Some, None, IsSome, is_some, All, slice_get}
+use Rattle.std.proofs.Common.{◌≡◌, ◌≢◌, ℕ, ◌-◌, ◌%◌, ◌<◌, ◌≤◌, true, List, length, refl, sym, ap, subst, ◌∙◌, arith}
+use Rattle.std.specs.Prelude.{Some, None, IsSome, is_some, All, slice_get}
 use Rattle.std.proofs.lemmas.List.Elements.{All-nil}
 use Rattle.std.specs.FinMap as maps
 use Rattle.ds_base.specs.declared.geometry.Geom.{Geom}
@@ -8,7 +8,7 @@ use Rattle.ds_base.specs.declared.geometry.Kind.{Kind}
 use Rattle.ds_base.specs.declared.geometry.Kind.TheVariants.{Fd, Sb, Pb, Fb}
 use Rattle.ds_base.specs.Geometry.{items_of}
 use Rattle.ds_tree.specs.Counts.{node_uses, used_of}
-use Rattle.ds_tree.specs.Nodes.{Entries, Node, Dir, File, Object, FileTree, object_at, node_at, birth_at, blocks_of, with_object}
+use Rattle.ds_tree.specs.Nodes.{Entries, Node, Dir, File, Object, FileTree, node_at, birth_at, blocks_of, with_object}
 use Rattle.ds_tree.specs.Steps.{is_dir}
 use Rattle.ds_tree.specs.Trees.{entries_of}
 use Rattle.ds_tree.specs.WellFormed.{IsTree, IsDir, AreNamedOnce, Names, Reached, root, entry}
@@ -25,7 +25,6 @@ same_uses Fb es es' rooms = refl
 module _ (g : Geom) (t : FileTree) (is : IsTree g t) (d k : ℕ) (entries : Entries) (rooms : ℕ) (name : List ℕ)
     (in_dir : node_at t d ≡ Some (Dir entries rooms)) (there : maps.get entries name ≡ Some k)
     (bare : entries_of (node_at t k) ≡ maps.empty) where
-
   abbrev x : Object
   x = record { birth = birth_at t d; node = Some (Dir (maps.remove entries name) rooms) }
 
@@ -84,7 +83,7 @@ module _ (g : Geom) (t : FileTree) (is : IsTree g t) (d k : ℕ) (entries : Entr
         names = λ nm o h. old.names nm o (removed entries name nm o (ap (λ (m : Entries). maps.get m nm) a ∙ h)).1;
         have_rooms = omega (arith, len, old.have_rooms);
         most = omega (arith, old.most);
-        by_four = ap (λ r. r % 4) (sym b) ∙ old.by_four
+        by_four = ap (λ r. r % 4) (sym b) ∙ old.by_four;
       }
 
   -- a name of the new tree is one of the old tree, and not the one that went
@@ -105,9 +104,9 @@ module _ (g : Geom) (t : FileTree) (is : IsTree g t) (d k : ℕ) (entries : Entr
     | is_a e i ↦
         let before : maps.get entries nm ≡ Some o = sym (ap (λ n. maps.get (entries_of (node_at t n)) nm) e ∙ ap (λ n. maps.get (entries_of n) nm) in_dir) ∙ h in
         ap (λ (z : Object). maps.get (entries_of z.node) nm) i ∙ get-remove_other entries name nm o (λ same.
-            let one : Some o ≡ Some k = sym before ∙ ap (maps.get entries) same ∙ there in
-            let e' : o ≡ k = cc in
-            differs e') before
+        let one : Some o ≡ Some k = sym before ∙ ap (maps.get entries) same ∙ there in
+        let e' : o ≡ k = cc in
+        differs e') before
     | is_b e i ↦ absurd (no_names m nm o e h)
     | is_other na nb i ↦ ap (λ (z : Object). maps.get (entries_of z.node) nm) i ∙ h
   ]
@@ -129,7 +128,7 @@ module _ (g : Geom) (t : FileTree) (is : IsTree g t) (d k : ℕ) (entries : Entr
   named_once = record {
     used = λ m nm o h. used_stays o (is.named_once.used m nm o (names_of m nm o h).0) (not_gone m nm o h);
     not_root = λ m nm h. is.named_once.not_root m nm (names_of m nm 0 h).0;
-    once = λ m m' nm nm' o h h'. is.named_once.once m m' nm nm' o (names_of m nm o h).0 (names_of m' nm' o h').0
+    once = λ m m' nm nm' o h h'. is.named_once.once m m' nm nm' o (names_of m nm o h).0 (names_of m' nm' o h').0;
   }
 
   still_reached : (n : ℕ) → Reached t n → n ≢ k → Reached u n
@@ -169,5 +168,5 @@ module _ (g : Geom) (t : FileTree) (is : IsTree g t) (d k : ℕ) (entries : Entr
     blocks_apart = λ n m i j b h h'. is.blocks_apart n m i j b (block_stays n i b h) (block_stays m j b h');
     blocks_in_range = keep t u d x k y ch (λ o. All (λ b. b < items_of g Fb) (blocks_of o.node)) is.blocks_in_range
         (All-nil (λ b. b < items_of g Fb)) (All-nil (λ b. b < items_of g Fb));
-    within = within
+    within = within;
   }

@@ -1,6 +1,6 @@
 -- A tree in which the entry of a file moved to another directory keeps the rules.
-use Rattle.std.proofs.Common.{◌≡◌, ◌≢◌, ℕ, ◌+◌, ◌-◌, ◌/◌, ◌%◌, ◌<◌, ◌≤◌, cond, Bool, true, false, ◌⊎◌, inl, inr, List, [], length, refl, sym, ap, subst, ◌∙◌, arith}
-use Rattle.std.specs.Prelude.{Option, Some, None, IsSome, is_some, All, slice_get}
+use Rattle.std.proofs.Common.{◌≡◌, ◌≢◌, ℕ, ◌+◌, ◌-◌, ◌%◌, ◌<◌, ◌≤◌, cond, Bool, true, false, ◌⊎◌, inl, inr, List, length, refl, sym, ap, subst, ◌∙◌, arith}
+use Rattle.std.specs.Prelude.{Some, None, IsSome, is_some, All, slice_get}
 use Rattle.std.proofs.lemmas.List.Elements.{All-nil}
 use Rattle.std.proofs.lemmas.Bool.Decides.{eqb_tells}
 use Rattle.std.specs.FinMap as maps
@@ -10,7 +10,7 @@ use Rattle.ds_base.specs.declared.geometry.Kind.TheVariants.{Fd, Sb, Pb, Fb}
 use Rattle.ds_base.specs.Geometry.{items_of}
 use Rattle.ds_base.specs.Names.{IsName}
 use Rattle.ds_tree.specs.Counts.{node_uses, used_of, free_of}
-use Rattle.ds_tree.specs.Nodes.{Entries, Node, Dir, File, Object, FileTree, object_at, node_at, birth_at, blocks_of, with_object, with_node}
+use Rattle.ds_tree.specs.Nodes.{Entries, Dir, File, Object, FileTree, node_at, birth_at, blocks_of, with_object}
 use Rattle.ds_tree.specs.Steps.{is_dir, is_full, rooms_with_one_more}
 use Rattle.ds_tree.specs.Trees.{entries_of}
 use Rattle.ds_tree.specs.WellFormed.{IsTree, IsDir, AreNamedOnce, Names, Reached, root, entry}
@@ -26,7 +26,6 @@ module _ (g : Geom) (t : FileTree) (is : IsTree g t) (d k to : ℕ) (entries : E
     (there : maps.get entries name ≡ Some k) (is_file : is_dir (node_at t k) ≡ false)
     (absent : maps.get entries' fresh ≡ None) (named_well : IsName fresh) (few : maps.len entries' < 384)
     (room : is_full entries' rooms' ≡ true → free_of g t Sb ≢ 0) where
-
   abbrev more : ℕ
   more = rooms_with_one_more entries' rooms'
 
@@ -91,7 +90,7 @@ module _ (g : Geom) (t : FileTree) (is : IsTree g t) (d k to : ℕ) (entries : E
         names = λ nm o h. old.names nm o (removed entries name nm o (ap (λ (m : Entries). maps.get m nm) a ∙ h)).1;
         have_rooms = omega (arith, len, old.have_rooms);
         most = omega (arith, old.most);
-        by_four = ap (λ r. r % 4) (sym b) ∙ old.by_four
+        by_four = ap (λ r. r % 4) (sym b) ∙ old.by_four;
       }
 
   y_dir : (es : Entries) (rs : ℕ) → y.node ≡ Some (Dir es rs) → IsDir es rs
@@ -107,7 +106,7 @@ module _ (g : Geom) (t : FileTree) (is : IsTree g t) (d k to : ℕ) (entries : E
         ];
         have_rooms = omega (arith, len, grown.0);
         most = grown.1;
-        by_four = grown.2
+        by_four = grown.2;
       }
 
   -- a name of the new tree is the new one, or one of the old tree that stays
@@ -132,9 +131,9 @@ module _ (g : Geom) (t : FileTree) (is : IsTree g t) (d k to : ℕ) (entries : E
     | is_a e i ↦
         let before : maps.get entries nm ≡ Some o = sym (ap (λ n. maps.get (entries_of (node_at t n)) nm) e ∙ ap (λ n. maps.get (entries_of n) nm) in_dir) ∙ h in
         ap (λ (z : Object). maps.get (entries_of z.node) nm) i ∙ get-remove_other entries name nm o (λ same.
-            let one : Some o ≡ Some k = sym before ∙ ap (maps.get entries) same ∙ there in
-            let e' : o ≡ k = cc in
-            differs e') before
+        let one : Some o ≡ Some k = sym before ∙ ap (maps.get entries) same ∙ there in
+        let e' : o ≡ k = cc in
+        differs e') before
     | is_b e i ↦
         let before : maps.get entries' nm ≡ Some o = sym (ap (λ n. maps.get (entries_of (node_at t n)) nm) e ∙ ap (λ n. maps.get (entries_of n) nm) in_to) ∙ h in
         ap (λ (z : Object). maps.get (entries_of z.node) nm) i ∙ get-insert_other entries' fresh k nm o absent before
@@ -172,7 +171,7 @@ module _ (g : Geom) (t : FileTree) (is : IsTree g t) (d k to : ℕ) (entries : E
         | inl q ↦ absurd (no_other m nm o q.2 p.0 p.1)
         | inr q ↦ is.named_once.once m m' nm nm' o p.0 q.0
       ]
-    ]
+    ];
   }
 
   -- a directory is reached as before
@@ -238,5 +237,5 @@ module _ (g : Geom) (t : FileTree) (is : IsTree g t) (d k to : ℕ) (entries : E
     blocks_apart = λ n m i j b h h'. is.blocks_apart n m i j b (block_stays n i b h) (block_stays m j b h');
     blocks_in_range = keep t u d x to y ch (λ o. All (λ b. b < items_of g Fb) (blocks_of o.node)) is.blocks_in_range
         (All-nil (λ b. b < items_of g Fb)) (All-nil (λ b. b < items_of g Fb));
-    within = within
+    within = within;
   }

@@ -1,16 +1,16 @@
 -- A tree in which an entry has another name in its directory keeps the rules.
-use Rattle.std.proofs.Common.{◌≡◌, ◌≢◌, ℕ, ◌+◌, ◌-◌, ◌/◌, ◌%◌, ◌<◌, ◌≤◌, cond, Bool, true, false, ◌⊎◌, inl, inr, List, [], length, refl, sym, ap, subst, ◌∙◌, arith}
-use Rattle.std.specs.Prelude.{Option, Some, None, IsSome, is_some, All, slice_get}
+use Rattle.std.proofs.Common.{◌≡◌, ◌≢◌, ℕ, ◌+◌, ◌%◌, ◌<◌, ◌≤◌, true, ◌⊎◌, inl, inr, List, length, sym, ap, subst, ◌∙◌, arith}
+use Rattle.std.specs.Prelude.{Some, None, IsSome, is_some, All, slice_get}
 use Rattle.std.proofs.lemmas.List.Elements.{All-nil}
 use Rattle.std.specs.FinMap as maps
 use Rattle.ds_base.specs.declared.geometry.Geom.{Geom}
 use Rattle.ds_base.specs.declared.geometry.Kind.{Kind}
-use Rattle.ds_base.specs.declared.geometry.Kind.TheVariants.{Fd, Sb, Pb, Fb}
+use Rattle.ds_base.specs.declared.geometry.Kind.TheVariants.{Fb}
 use Rattle.ds_base.specs.Geometry.{items_of}
 use Rattle.ds_base.specs.Names.{IsName}
-use Rattle.ds_tree.specs.Counts.{node_uses, used_of, free_of}
-use Rattle.ds_tree.specs.Nodes.{Entries, Node, Dir, File, Object, FileTree, object_at, node_at, birth_at, blocks_of, with_object, with_node}
-use Rattle.ds_tree.specs.Steps.{is_dir, is_full, rooms_with_one_more}
+use Rattle.ds_tree.specs.Counts.{node_uses, used_of}
+use Rattle.ds_tree.specs.Nodes.{Entries, Dir, File, Object, FileTree, node_at, birth_at, blocks_of, with_object}
+use Rattle.ds_tree.specs.Steps.{is_dir}
 use Rattle.ds_tree.specs.Trees.{entries_of}
 use Rattle.ds_tree.specs.WellFormed.{IsTree, IsDir, AreNamedOnce, Names, Reached, root, entry}
 use Rattle.ds_tree.proofs.Changed.{ChangedOne, changed_one, Whether, is_it, is_not, whether_is, keep_one}
@@ -21,7 +21,6 @@ use Rattle.ds_tree.proofs.RemoveKeeps.{same_uses}
 module _ (g : Geom) (t : FileTree) (is : IsTree g t) (d k : ℕ) (entries : Entries) (rooms : ℕ) (name fresh : List ℕ)
     (in_dir : node_at t d ≡ Some (Dir entries rooms)) (there : maps.get entries name ≡ Some k)
     (absent : maps.get entries fresh ≡ None) (named_well : IsName fresh) where
-
   abbrev left : Entries
   left = maps.remove entries name
 
@@ -73,7 +72,7 @@ module _ (g : Geom) (t : FileTree) (is : IsTree g t) (d k : ℕ) (entries : Entr
         ];
         have_rooms = omega (arith, len, old.have_rooms, len-remove_there entries name k there, len-there entries name k there);
         most = omega (arith, old.most);
-        by_four = ap (λ r. r % 4) (sym b) ∙ old.by_four
+        by_four = ap (λ r. r % 4) (sym b) ∙ old.by_four;
       }
 
   -- a name of the new tree is the new one, or one of the old tree that stays
@@ -138,7 +137,7 @@ module _ (g : Geom) (t : FileTree) (is : IsTree g t) (d k : ℕ) (entries : Entr
         | inl q ↦ absurd (no_other m nm o q.2 p.0 p.1)
         | inr q ↦ is.named_once.once m m' nm nm' o p.0 q.0
       ]
-    ]
+    ];
   }
 
   still_reached : (n : ℕ) → Reached t n → Reached u n
@@ -180,5 +179,5 @@ module _ (g : Geom) (t : FileTree) (is : IsTree g t) (d k : ℕ) (entries : Entr
     reached = reached;
     blocks_apart = λ n m i j b h h'. is.blocks_apart n m i j b (block_stays n i b h) (block_stays m j b h');
     blocks_in_range = keep_one t u d x ch (λ o. All (λ b. b < items_of g Fb) (blocks_of o.node)) is.blocks_in_range (All-nil (λ b. b < items_of g Fb));
-    within = within
+    within = within;
   }

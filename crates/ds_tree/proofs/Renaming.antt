@@ -37,9 +37,9 @@ renamed-across t dir to entries rooms name node apart in_dir t1 t2 is1 is2 =
     let left : Object = record { birth = birth_at t dir; node = Some (Dir (maps.remove entries name) rooms) } in
     let there : object_at t1 dir ≡ object_at t dir = ap (λ u. object_at u dir) is1 ∙ with_object-there t to dir put apart in
     let is_left : without (object_at t dir) name ≡ left =
-        ap (λ n. record { birth = birth_at t dir; node = Some (Dir (maps.remove (entries_of n) name) (rooms_of n)) }) in_dir in
+    ap (λ n. record { birth = birth_at t dir; node = Some (Dir (maps.remove (entries_of n) name) (rooms_of n)) }) in_dir in
     let back : birth_at t to ≡ birth_at (with_object t dir left) to =
-        ap (λ (o : Object). o.birth) (sym (with_object-there t dir to left (λ e. apart (sym e)))) in
+    ap (λ (o : Object). o.birth) (sym (with_object-there t dir to left (λ e. apart (sym e)))) in
     is2 ∙ ap (λ o. with_object t1 dir (without o name)) there ∙ ap (λ o. with_object t1 dir o) is_left
     ∙ ap (λ u. with_object u dir left) is1
     ∙ with_object-swap t to dir put left (λ e. apart (sym e))

@@ -2,12 +2,12 @@
 use Rattle.std.proofs.Common.{◌≡◌, ◌≢◌, ℕ, suc, zero, ◌+◌, ◌-◌, ◌<◌, ◌≤◌, min, true, false, ◌⊎◌, inl, inr, List, [], ◌∷◌, ◌++◌, length, take, nat_eq, refl, sym, ap, subst, ◌∙◌, arith, slice_index_or}
 use Rattle.std.specs.Prelude.{Option, Some, None, IsSome, is_some, All, Contains, slice_get}
 use Rattle.std.specs.List.{AllByRecursion, IsDistinct, flat_map}
-use Rattle.std.proofs.lemmas.Bool.{eqb-false, eq-eqb, false≢true}
+use Rattle.std.proofs.lemmas.Bool.{eqb-false}
 use Rattle.std.proofs.lemmas.Bool.{cases_lt}
 use Rattle.std.proofs.lemmas.List.{length-append, length-take, get_or-take, get_or_append_left}
 use Rattle.std.proofs.Math.Seq.{get_or-append_right}
 use Rattle.std.proofs.lemmas.List.Concat.{get_or-flat_map}
-use Rattle.std.proofs.lemmas.List.Elements.{All-append, All-take, All-contains}
+use Rattle.std.proofs.lemmas.List.Elements.{All-append, All-take}
 use Rattle.std.proofs.lemmas.List.Folds.{length-flat_map-take}
 use Rattle.std.proofs.lemmas.Option.{slice_get_cases, slice_get-get_or}
 use Rattle.std.specs.FinMap as maps
@@ -16,7 +16,7 @@ use Rattle.ds_base.specs.declared.geometry.Kind.{Kind}
 use Rattle.ds_base.specs.declared.geometry.Kind.TheVariants.{Fd, Sb, Pb, Fb}
 use Rattle.ds_base.specs.Geometry.{items_of}
 use Rattle.ds_tree.specs.Counts.{pointer_blocks, node_uses, used_of, free_of}
-use Rattle.ds_tree.specs.Nodes.{Entries, Node, Dir, File, Object, FileTree, unborn, object_at, node_at, birth_at, blocks_of, all_blocks, with_object}
+use Rattle.ds_tree.specs.Nodes.{Entries, Node, Dir, File, Object, FileTree, unborn, node_at, birth_at, blocks_of, all_blocks, with_object}
 use Rattle.ds_tree.specs.Steps.{is_dir}
 use Rattle.ds_tree.specs.Trees.{entries_of}
 use Rattle.ds_tree.specs.WellFormed.{IsTree, IsDir, AreApart, AreNamedOnce, Names, Reached, root, entry}
@@ -66,7 +66,6 @@ module _ (g : Geom) (t : FileTree) (is : IsTree g t) (f size : ℕ) (blocks adde
     (in_file : node_at t f ≡ Some (File blocks)) (most : size ≤ 12288) (grows : length added ≡ size - length blocks)
     (added_in_range : All (λ b. b < items_of g Fb) added) (free : All (λ b. ¬ Contains (all_blocks t) b) added) (distinct : IsDistinct nat_eq added)
     (fb : size - length blocks ≤ free_of g t Fb) (pb : pointer_blocks size - pointer_blocks (length blocks) ≤ free_of g t Pb) where
-
   abbrev kept : List ℕ
   kept = take size blocks
 
@@ -132,7 +131,7 @@ module _ (g : Geom) (t : FileTree) (is : IsTree g t) (f size : ℕ) (blocks adde
   named_once = record {
     used = λ m nm o h. used_stays o (is.named_once.used m nm o (names_of m nm o h));
     not_root = λ m nm h. is.named_once.not_root m nm (names_of m nm 0 h);
-    once = λ m m' nm nm' o h h'. is.named_once.once m m' nm nm' o (names_of m nm o h) (names_of m' nm' o h')
+    once = λ m m' nm nm' o h h'. is.named_once.once m m' nm nm' o (names_of m nm o h) (names_of m' nm' o h');
   }
 
   still_reached : (n : ℕ) → Reached t n → Reached u n
@@ -164,14 +163,14 @@ module _ (g : Geom) (t : FileTree) (is : IsTree g t) (f size : ℕ) (blocks adde
               let i_blocks : i < length blocks = omega (arith, kept_length, low) in
               let value : slice_index_or blocks i b ≡ b = sym (get_or-take size blocks i b i_size) ∙ sym (get_or_append_left kept added b i low) ∙ p.1 in
               inl (ap (λ m. slice_get (blocks_of (node_at t m)) i) e ∙ ap (λ n. slice_get (blocks_of n) i) in_file
-                  ∙ slice_get-get_or blocks i b i_blocks ∙ ap Some value)
+              ∙ slice_get-get_or blocks i b i_blocks ∙ ap Some value)
           | inr high ↦ inr (record {
-              file = e;
-              place = i - length kept;
-              index = omega arith;
-              within = omega (arith, length-append kept added, p.0);
-              value = sym (get_or-append_right kept added i b high) ∙ p.1
-            })
+            file = e;
+            place = i - length kept;
+            index = omega arith;
+            within = omega (arith, length-append kept added, p.0);
+            value = sym (get_or-append_right kept added i b high) ∙ p.1;
+          })
         ]
     | is_not na o ↦ inl (sym (ap (λ (z : Object). slice_get (blocks_of z.node) i) o) ∙ h)
   ]
@@ -221,5 +220,5 @@ module _ (g : Geom) (t : FileTree) (is : IsTree g t) (f size : ℕ) (blocks adde
     reached = reached;
     blocks_apart = apart;
     blocks_in_range = keep_one t u f x ch (λ o. All (λ b. b < items_of g Fb) (blocks_of o.node)) is.blocks_in_range blocks_in_range;
-    within = within
+    within = within;
   }

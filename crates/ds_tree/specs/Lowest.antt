@@ -1,6 +1,6 @@
 -- The free choices that a tree in memory makes: the lowest free object number with the birth after its last, and the
 -- lowest free blocks, in order.
-use Rattle.std.specs.Prelude.{◌≡◌, ℕ, ◌+◌, ◌-◌, ◌<◌, not, nat_eq, List, ◌++◌, length, take, filter, Option, IsSome}
+use Rattle.std.specs.Prelude.{◌≡◌, ℕ, ◌+◌, ◌-◌, ◌<◌, not, nat_eq, List, ◌++◌, length, take, filter, IsSome}
 use Rattle.std.specs.List.{list_any, range_with_len}
 use Rattle.ds_base.specs.declared.geometry.Geom.{Geom}
 use Rattle.ds_base.specs.declared.geometry.Kind.TheVariants.{Fb}

@@ -53,7 +53,13 @@ impl Tree {
     }
 
     /// Puts an entry under another name, in the same directory or in another.
-    pub(crate) fn rename(&mut self, dir: Key, name: &Name, to: Key, fresh: Name) -> Result<Key, NoMemory>
+    pub(crate) fn rename(
+        &mut self,
+        dir: Key,
+        name: &Name,
+        to: Key,
+        fresh: Name,
+    ) -> Result<Key, NoMemory>
         requires dir { is_dir (node_at self.old.tree dir.object) ≡ true }
         requires found { maps.contains_key (entries_of (node_at self.old.tree dir.object)) name.now ≡ true }
         requires to { is_dir (node_at self.old.tree to.object) ≡ true }
@@ -113,7 +119,9 @@ impl Tree {
         ensures used { IfOk result (λ used. (b : ℕ) → b < items_of self.now.geom kinds.Fb
             → slice_index_or used.items b false ≡ list_any (nat_eq b) (all_blocks self.now.tree)) }
     {
-        let mut used = Vec::from_elem(self.alloc(), false, self.items(Kind::Fb) as usize).map_err(|_| NoMemory)?;
+        let mut used = Vec::from_elem(self.alloc(), false, self.items(Kind::Fb) as usize).map_err(
+            |_| NoMemory,
+        )?;
         for object in self.objects() {
             mark(&mut used, object.blocks());
         }
@@ -141,7 +149,7 @@ fn mark(used: &mut Vec<bool>, blocks: &[u32])
     ensures len { length used.new.items ≡ length used.old.items }
     ensures marks { (b : ℕ) → b < length used.old.items
         → slice_index_or used.new.items b false
-            ≡ (slice_index_or used.old.items b false || list_any (nat_eq b) blocks.now) }
+        ≡ (slice_index_or used.old.items b false || list_any (nat_eq b) blocks.now) }
 {
     for block in blocks {
         used[*block as usize] = true;

@@ -23,7 +23,11 @@ pub(crate) fn pointer_blocks(blocks: u64) -> u64
     requires { blocks < 2 ^ 63 }
     ensures { result ≡ pointer_blocks blocks }
 {
-    if blocks <= 96 { 0 } else { (blocks + 127) / 128 }
+    if blocks <= 96 {
+        0
+    } else {
+        (blocks + 127) / 128
+    }
 }
 
 fn used(objects: &[ObjectInMemory], kind: Kind) -> u64

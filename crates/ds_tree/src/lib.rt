@@ -10,11 +10,10 @@ mod reads;
 mod refusals;
 mod scenarios;
 mod steps;
-mod trees;
-mod variables;
-
 #[cfg(test)]
 mod tests;
+mod trees;
+mod variables;
 
 pub use calls::{Call, CallOf, HostCall, HostCallOf, TreeReply};
 pub use scenarios::{Directive, HostPlan, Items, Point, Scenario};

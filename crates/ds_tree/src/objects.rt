@@ -155,9 +155,11 @@ impl ObjectInMemory {
     pub(crate) fn add_entry(&mut self, name: Name, object: ObjNo) -> Result<(), NoMemory>
         requires dir { is_dir self.old.node ≡ true }
         requires rooms { rooms_of self.old.node ≤ 384 }
-        ensures ok { OnOk result (self.new ≡ record { birth = self.old.birth;
-            node = Some (Dir (maps.insert (entries_of self.old.node) name object)
-                (rooms_with_one_more (entries_of self.old.node) (rooms_of self.old.node))) }) }
+        ensures ok { OnOk result (self.new ≡ record {
+          birth = self.old.birth;
+          node = Some (Dir (maps.insert (entries_of self.old.node) name object)
+              (rooms_with_one_more (entries_of self.old.node) (rooms_of self.old.node)));
+        }) }
         ensures err { OnErr result (self.new ≡ self.old) }
     {
         let full = self.is_full();
@@ -183,8 +185,10 @@ impl ObjectInMemory {
     fn add_rooms(&mut self)
         requires dir { is_dir self.old.node ≡ true }
         requires rooms { rooms_of self.old.node ≤ 384 }
-        ensures { self.new ≡ record { birth = self.old.birth;
-            node = Some (Dir (entries_of self.old.node) (rooms_of self.old.node + 4)) } }
+        ensures { self.new ≡ record {
+          birth = self.old.birth;
+          node = Some (Dir (entries_of self.old.node) (rooms_of self.old.node + 4));
+        } }
     {
         match &mut self.node {
             Some(NodeInMemory::Dir { rooms, .. }) => *rooms += 4,
@@ -196,8 +200,10 @@ impl ObjectInMemory {
     pub(crate) fn set_size(&mut self, size: u32, added: &[u32]) -> Result<(), NoMemory>
         requires file { is_file self.old.node ≡ true }
         requires added { 0 < length added.now → length (blocks_of self.old.node) ≤ size }
-        ensures ok { OnOk result (self.new ≡ record { birth = self.old.birth;
-            node = Some (File (take size (blocks_of self.old.node) ++ added.now)) }) }
+        ensures ok { OnOk result (self.new ≡ record {
+          birth = self.old.birth;
+          node = Some (File (take size (blocks_of self.old.node) ++ added.now));
+        }) }
         ensures err { OnErr result (self.new ≡ self.old) }
     {
         match &mut self.node {
@@ -209,8 +215,10 @@ impl ObjectInMemory {
     /// Takes an entry out of a directory. Its room stays.
     pub(crate) fn remove_entry(&mut self, name: &Name)
         requires { is_dir self.old.node ≡ true }
-        ensures { self.new ≡ record { birth = self.old.birth;
-            node = Some (Dir (maps.remove (entries_of self.old.node) name.now) (rooms_of self.old.node)) } }
+        ensures { self.new ≡ record {
+          birth = self.old.birth;
+          node = Some (Dir (maps.remove (entries_of self.old.node) name.now) (rooms_of self.old.node));
+        } }
     {
         match &mut self.node {
             Some(NodeInMemory::Dir { entries, .. }) => entries.remove(name),

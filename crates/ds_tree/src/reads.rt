@@ -77,11 +77,15 @@ impl Tree {
     }
 
     /// The first names of a directory above one, with their keys.
-    pub(crate) fn list(&self, dir: ObjNo, after: Option<&Name>) -> Result<ArrayVec<(Name, Key), 32>, NoMemory>
+    pub(crate) fn list(
+        &self,
+        dir: ObjNo,
+        after: Option<&Name>,
+    ) -> Result<ArrayVec<(Name, Key), 32>, NoMemory>
         requires { is_dir (node_at self.now.tree dir) ≡ true }
         ensures { IfOk result (λ page. page.items
             ≡ map (λ e. (e.0, record { object = e.1; birth = birth_at self.now.tree e.1 }))
-                (take 32 (entries_above (entries_of (node_at self.now.tree dir)) (option_copied after.entry)))) }
+            (take 32 (entries_above (entries_of (node_at self.now.tree dir)) (option_copied after.entry)))) }
     {
         let Some(NodeInMemory::Dir { entries, .. }) = self.node_at(dir) else {
             unreachable!()

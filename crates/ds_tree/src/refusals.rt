@@ -30,7 +30,12 @@ impl Tree {
             CallOf::Resize { file, blocks } => self.refuses_resize(*file, *blocks),
             CallOf::Remove { dir, name } => self.refuses_remove(*dir, name),
             CallOf::Rmdir { dir, name } => self.refuses_rmdir(*dir, name),
-            CallOf::Rename { dir, name, to, fresh } => self.refuses_rename(*dir, name, *to, fresh),
+            CallOf::Rename {
+                dir,
+                name,
+                to,
+                fresh,
+            } => self.refuses_rename(*dir, name, *to, fresh),
             CallOf::OpenFile { file } => self.refuses_file(*file),
             CallOf::At { file, index } => self.refuses_at(*file, *index),
         }
@@ -196,7 +201,9 @@ impl Tree {
         };
         match self.node_at(object) {
             Some(NodeInMemory::File { .. }) => Some(TreeReply::NotDir),
-            Some(NodeInMemory::Dir { entries, .. }) if entries.len() > 0 => Some(TreeReply::NotEmpty),
+            Some(NodeInMemory::Dir { entries, .. }) if entries.len() > 0 => Some(
+                TreeReply::NotEmpty,
+            ),
             _ => None,
         }
     }
@@ -207,7 +214,7 @@ impl Tree {
         requires tree { IsTree self.now.geom self.now.tree }
         ensures { result ≡ steps.in_dir (node_of_key self.now.tree dir) (λ entries rooms.
             steps.in_dir (node_of_key self.now.tree to) (λ entries' rooms'.
-                steps.refuses_rename self.now.geom self.now.tree (dir.object == to.object) word.now fresh.now entries entries' rooms')) }
+            steps.refuses_rename self.now.geom self.now.tree (dir.object == to.object) word.now fresh.now entries entries' rooms')) }
     {
         let Some(node) = self.node(dir) else {
             return Some(TreeReply::NoObject);
@@ -218,13 +225,32 @@ impl Tree {
         let Some(other) = self.node(to) else {
             return Some(TreeReply::NoObject);
         };
-        let NodeInMemory::Dir { entries: others, rooms } = other else {
+        let NodeInMemory::Dir {
+            entries: others,
+            rooms,
+        } = other
+        else {
             return Some(TreeReply::NotDir);
         };
-        self.refuses_move(dir.object == to.object, word, fresh, entries, others, *rooms)
+        self.refuses_move(
+            dir.object == to.object,
+            word,
+            fresh,
+            entries,
+            others,
+            *rooms,
+        )
     }
 
-    fn refuses_move(&self, same: bool, word: &Word, fresh: &Word, entries: &Listing, others: &Listing, rooms: u32) -> Option<TreeReply>
+    fn refuses_move(
+        &self,
+        same: bool,
+        word: &Word,
+        fresh: &Word,
+        entries: &Listing,
+        others: &Listing,
+        rooms: u32,
+    ) -> Option<TreeReply>
         requires name { IsName word.now }
         requires fresh { IsName fresh.now }
         requires tree { IsTree self.now.geom self.now.tree }

@@ -82,7 +82,12 @@ impl Tree {
                 let key = self.remove(*dir, &name_of(name));
                 Ok(TreeReply::Gone { key })
             }
-            CallOf::Rename { dir, name, to, fresh } => {
+            CallOf::Rename {
+                dir,
+                name,
+                to,
+                fresh,
+            } => {
                 let key = self.rename(*dir, &name_of(name), *to, name_of(fresh))?;
                 Ok(TreeReply::Moved { key })
             }

@@ -206,13 +206,18 @@ impl Tree {
     }
 
     /// Puts a new entry into a directory, with four more rooms where every room was used.
-    pub(crate) fn add_entry(&mut self, dir: ObjNo, name: Name, object: ObjNo) -> Result<(), NoMemory>
+    pub(crate) fn add_entry(
+        &mut self,
+        dir: ObjNo,
+        name: Name,
+        object: ObjNo,
+    ) -> Result<(), NoMemory>
         requires dir { is_dir (node_at self.old.tree dir) ≡ true }
         requires rooms { rooms_of (node_at self.old.tree dir) ≤ 384 }
         ensures geom { self.new.geom ≡ self.old.geom }
         ensures ok { OnOk result (self.new.tree ≡ with_node self.old.tree dir
             (Dir (maps.insert (entries_of (node_at self.old.tree dir)) name object)
-                (rooms_with_one_more (entries_of (node_at self.old.tree dir)) (rooms_of (node_at self.old.tree dir))))) }
+            (rooms_with_one_more (entries_of (node_at self.old.tree dir)) (rooms_of (node_at self.old.tree dir))))) }
         ensures err { OnErr result (self.new.tree ≡ self.old.tree) }
     {
         let it = &mut self.objects[dir as usize];

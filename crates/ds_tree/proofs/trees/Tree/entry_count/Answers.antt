@@ -1,4 +1,4 @@
-use Rattle.std.proofs.Common.{◌≡◌, ◌≤◌, ap, sym, ◌∙◌, arith}
+use Rattle.std.proofs.Common.{◌≡◌, arith}
 use Rattle.std.specs.FinMap as maps
 use Rattle.ds_tree.specs.Nodes.{node_at}
 use Rattle.ds_tree.specs.Trees.{entries_of}

@@ -1,11 +1,11 @@
-use Rattle.std.proofs.Common.{◌≡◌, ◌≤◌, ◌<◌, ℕ, List, ◌∷◌, ◌++◌, [], length, map, sym, ap, ◌∙◌, arith}
+use Rattle.std.proofs.Common.{◌≡◌, ℕ, List, ◌∷◌, ◌++◌, [], map, sym, ap, ◌∙◌, arith}
 use Rattle.std.proofs.lemmas.Bool.Decides.{nat_tests}
 use Rattle.std.specs.Prelude.{option_copied}
 use Rattle.ds_base.specs.declared.names.Key.{Key}
 use Rattle.ds_tree.specs.Nodes.{FileTree, node_at, birth_at}
 use Rattle.ds_tree.specs.Steps.{entries_above}
 use Rattle.ds_tree.specs.Trees.{entries_of}
-use Rattle.ds_tree.proofs.Pages.{Paged, paged-end, paged-full, paged-more}
+use Rattle.ds_tree.proofs.Pages.{paged-end, paged-full, paged-more}
 use Rattle.ds_tree.proofs.trees.Tree.list.Goals as goal
 
 with_key : FileTree → List ℕ × ℕ → List ℕ × Key
@@ -22,7 +22,7 @@ returns-then-is_full c =
     let pushed : c.push.new.self.items ≡ page ++ with_key t e ∷ [] = c.push.ensures.items ∙ ap (λ p. page ++ p ∷ []) pair in
     let more = paged-more (with_key t) all 32 page c.loop-name.rest c.loop-name.invariant.split e c.next.new.self c.in-Some.ensures.steps in
     let split : map (with_key t) all ≡ c.push.new.self.items ++ map (with_key t) c.next.new.self =
-        more ∙ ap (λ ys. ys ++ map (with_key t) c.next.new.self) (sym pushed) in
+    more ∙ ap (λ ys. ys ++ map (with_key t) c.next.new.self) (sym pushed) in
     paged-full (with_key t) all 32 c.push.new.self.items c.next.new.self split (grind (arith, nat_tests)) (omega (arith, c.is_full.ensures.fits))
 
 pub loop-name-preserved : goal.loop-name-preserved
@@ -37,7 +37,7 @@ loop-name-preserved c =
     let more = paged-more (with_key t) all 32 page c.loop-name.rest c.loop-name.invariant.split e c.next.new.self c.in-Some.ensures.steps in
     record {
       split = more ∙ ap (λ ys. ys ++ map (with_key t) c.next.new.self) (sym pushed);
-      short = grind (arith, nat_tests)
+      short = grind (arith, nat_tests);
     }
 
 pub returns : goal.returns
@@ -45,4 +45,4 @@ unfolding with_key
 returns c =
     let t = c.args.self.now.tree in
     paged-end (with_key t) (entries_above (entries_of (node_at t c.args.dir)) (option_copied c.args.after)) 32
-        c.loop-name.page.items c.loop-name.rest c.loop-name.invariant c.in_default-next.ensures.steps.0
+    c.loop-name.page.items c.loop-name.rest c.loop-name.invariant c.in_default-next.ensures.steps.0

@@ -1,7 +1,7 @@
 use Rattle.std.proofs.Common.{ℕ, List, length}
 use Rattle.std.specs.Prelude.{option_copied}
 use Rattle.ds_base.specs.declared.names.Key.{Key}
-use Rattle.ds_tree.specs.Nodes.{FileTree, node_at, birth_at}
+use Rattle.ds_tree.specs.Nodes.{node_at, birth_at}
 use Rattle.ds_tree.specs.Steps.{entries_above}
 use Rattle.ds_tree.specs.Trees.{entries_of}
 use Rattle.ds_tree.proofs.Pages.{Paged}

@@ -1,4 +1,4 @@
-use Rattle.std.proofs.Common.{◌≡◌, ◌<◌, ◌++◌, ◌∷◌, [], ℕ, Bool, true, false, sym, ap, ◌∙◌, nat_eq, arith, List, Vec, Global, length}
+use Rattle.std.proofs.Common.{◌≡◌, ◌<◌, ℕ, Bool, true, sym, ap, ◌∙◌, nat_eq, arith, List, Vec, Global, length}
 use Rattle.std.specs.Prelude.{not, is_ok}
 use Rattle.std.specs.List.{list_any}
 use Rattle.ds_base.specs.declared.geometry.Kind.TheVariants as kinds
@@ -22,7 +22,7 @@ loop-block-preserved c =
           let ok : is_ok w.push.result ≡ true = sym w.map_err.ensures.variant ∙ ap is_ok w.in_ok-map_err.was in
           let is = tested used block w.index.result.now has inside w.index.ensures (c.in_ok-used.ensures.used block within) in
           ap (λ (v : Vec ℕ Global). v.items) w.free-is ∙ rw (w.push.ensures.items, ok) (take-next p c.args.count block free c.loop-block.invariant
-              (omega (arith, c.loop-block.free.ok.0, c.len.ensures, w.if-len-count.true)) (ap not (sym is ∙ w.if-not-index.true)))
+          (omega (arith, c.loop-block.free.ok.0, c.len.ensures, w.if-len-count.true)) (ap not (sym is ∙ w.if-not-index.true)))
       | else-len-count w ↦ ap (λ (v : Vec ℕ Global). v.items) w.free-is ∙ elim w.else-len-count.branch [
         | else-len-count-via-then-len-count+else-not-index w' ↦
             let is = tested used block w'.index.result.now has inside w'.index.ensures (c.in_ok-used.ensures.used block within) in

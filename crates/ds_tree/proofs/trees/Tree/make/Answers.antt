@@ -1,5 +1,5 @@
-use Rattle.std.proofs.Common.{◌≡◌, ◌+◌, ◌<◌, Some, ap, ◌∙◌, arith}
-use Rattle.ds_tree.specs.Nodes.{FileTree, birth_at, node_at, with_object}
+use Rattle.std.proofs.Common.{◌+◌, Some, ap, ◌∙◌, arith}
+use Rattle.ds_tree.specs.Nodes.{FileTree, node_at, with_object}
 use Rattle.ds_tree.specs.Trees.{entries_of, rooms_of, empty_node}
 use Rattle.ds_tree.proofs.ObjectLists.{dir_parts}
 use Rattle.ds_tree.proofs.trees.Tree.make.Goals as goal
@@ -18,5 +18,5 @@ returns-clause-makes c =
       free = c.lowest_free-object.ensures.free;
       later = omega (arith, c.birth-birth.ensures);
       made = c.put_empty.ensures.tree ∙ ap (λ (t : FileTree). with_object t c.lowest_free-object.result
-          (record { birth = c.birth-birth.result + 1; node = Some (empty_node c.args.kind) })) c.in_ok-add_entry.ensures.ok
+          (record { birth = c.birth-birth.result + 1; node = Some (empty_node c.args.kind) })) c.in_ok-add_entry.ensures.ok;
     }

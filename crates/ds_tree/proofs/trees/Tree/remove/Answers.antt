@@ -17,5 +17,5 @@ returns-clause-removes c =
       entry = sym c.entry.ensures ∙ c.in-Some.is ∙ ap (λ (k : Key). Some k.object) (sym key);
       life = ap (λ (k : Key). birth_at t k.object) key ∙ sym (ap (λ (k : Key). k.birth) key);
       removed = c.put_free.ensures.tree ∙ ap (λ (u : FileTree). with_object u c.key_of-key.result.object
-          (record { birth = c.key_of-key.result.birth; node = None })) c.remove_entry.ensures.tree
+          (record { birth = c.key_of-key.result.birth; node = None })) c.remove_entry.ensures.tree;
     }

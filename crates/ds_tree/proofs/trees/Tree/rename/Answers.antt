@@ -1,8 +1,8 @@
-use Rattle.std.proofs.Common.{◌≡◌, Some, None, sym, ap, ◌∙◌}
+use Rattle.std.proofs.Common.{Some, sym, ap, ◌∙◌}
 use Rattle.ds_base.specs.declared.names.Key.{Key}
 use Rattle.std.proofs.lemmas.Bool.{eq-eqb, ne_eqb}
 use Rattle.std.specs.FinMap as maps
-use Rattle.ds_tree.specs.Nodes.{Dir, FileTree, birth_at, node_at}
+use Rattle.ds_tree.specs.Nodes.{Dir, birth_at, node_at}
 use Rattle.ds_tree.specs.Steps.{rooms_with_one_more}
 use Rattle.ds_tree.specs.Trees.{TreeValue, entries_of, rooms_of}
 use Rattle.ds_tree.proofs.ObjectLists.{dir_parts, dir_in_range, none_from}
@@ -31,14 +31,14 @@ returns-clause-renames c =
       moved = elim c.if-dir-to.branch [
         | then-dir-to+in_ok-put_entry w ↦ rw (key, eq-eqb c.args.dir.object c.args.to.object w.if-dir-to.true) (
             renamed-inside t c.args.dir.object (entries_of node) (rooms_of node) c.args.name.now c.args.fresh c.in-Some.object
-                (dir_in_range t c.args.dir.object c.requires.dir) (sym c.entry.ensures ∙ c.in-Some.is)
-                (ap (λ n. maps.get (entries_of (node_at t n)) c.args.fresh) w.if-dir-to.true ∙ none_from _ c.requires.fresh)
-                c.if-dir-to.self.tree c.remove_entry.new.self.tree
-                (ap (λ (v : TreeValue). v.tree) w.self-is ∙ w.in_ok-put_entry.ensures.ok) c.remove_entry.ensures.tree)
+            (dir_in_range t c.args.dir.object c.requires.dir) (sym c.entry.ensures ∙ c.in-Some.is)
+            (ap (λ n. maps.get (entries_of (node_at t n)) c.args.fresh) w.if-dir-to.true ∙ none_from _ c.requires.fresh)
+            c.if-dir-to.self.tree c.remove_entry.new.self.tree
+            (ap (λ (v : TreeValue). v.tree) w.self-is ∙ w.in_ok-put_entry.ensures.ok) c.remove_entry.ensures.tree)
         | else-dir-to+in_ok-add_entry w ↦ rw (key, ne_eqb c.args.dir.object c.args.to.object w.if-dir-to.false) (
             renamed-across t c.args.dir.object c.args.to.object (entries_of node) (rooms_of node) c.args.name.now
-                (Dir (maps.insert (entries_of other) c.args.fresh c.in-Some.object) (rooms_with_one_more (entries_of other) (rooms_of other)))
-                w.if-dir-to.false (dir_parts node c.requires.dir) c.if-dir-to.self.tree c.remove_entry.new.self.tree
-                (ap (λ (v : TreeValue). v.tree) w.self-is ∙ w.in_ok-add_entry.ensures.ok) c.remove_entry.ensures.tree)
-      ]
+            (Dir (maps.insert (entries_of other) c.args.fresh c.in-Some.object) (rooms_with_one_more (entries_of other) (rooms_of other)))
+            w.if-dir-to.false (dir_parts node c.requires.dir) c.if-dir-to.self.tree c.remove_entry.new.self.tree
+            (ap (λ (v : TreeValue). v.tree) w.self-is ∙ w.in_ok-add_entry.ensures.ok) c.remove_entry.ensures.tree)
+      ];
     }

@@ -1,4 +1,4 @@
-use Rattle.std.proofs.Common.{◌≡◌, ◌<◌, ℕ, List, subst, sym, ap, ◌∙◌, length, arith, slice_index_or}
+use Rattle.std.proofs.Common.{◌≡◌, ◌<◌, ℕ, List, subst, sym, ap, ◌∙◌, slice_index_or}
 use Rattle.std.specs.Prelude.{All}
 use Rattle.ds_base.specs.Geometry.{items_of}
 use Rattle.ds_base.specs.declared.geometry.Kind.TheVariants as kinds
@@ -12,8 +12,8 @@ mark-requires c =
     let n : ℕ = c.loop-object.object-index in
     let objects : List Object = c.objects-object-items.result.now in
     let is : c.object-item.result ≡ object_at c.args.self.now.tree n =
-        c.object-item.is ∙ get_or_default objects n c.object-item.result unborn c.loop-object-test.true
-        ∙ ap (λ (os : List Object). slice_index_or os n unborn) c.loop-object.invariant.0 in
+    c.object-item.is ∙ get_or_default objects n c.object-item.result unborn c.loop-object-test.true
+    ∙ ap (λ (os : List Object). slice_index_or os n unborn) c.loop-object.invariant.0 in
     let here : All P c.blocks-in-loop-object.result.now =
-        subst (λ bs. All P bs) (ap (λ (o : Object). blocks_of o.node) (sym is) ∙ sym c.blocks-in-loop-object.ensures) (c.requires.blocks_in_range n) in
+    subst (λ bs. All P bs) (ap (λ (o : Object). blocks_of o.node) (sym is) ∙ sym c.blocks-in-loop-object.ensures) (c.requires.blocks_in_range n) in
     λ k d h. subst (λ n. slice_index_or c.blocks-in-loop-object.result.now k d < n) (sym c.loop-object.invariant.1) (here k d h)
