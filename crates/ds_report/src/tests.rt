@@ -2,12 +2,12 @@
 use crate::answers::{write_answer, write_page};
 use crate::growing::Growing;
 use crate::listing;
-use crate::reports::whole;
+use crate::reports::{text, whole};
 use arrayvec::ArrayVec;
 use ds_base::{Command, Geom, Key, Kind, Name, NodeKind, ObjNo, Response, Sector, Word};
 use ds_host::HostAnswer;
 use ds_tree::{CallOf, Directive, HostCallOf, HostPlan, Items, Scenario, Spoken, Tree, TreeReply};
-use ds_world::{Event, Reply, Step};
+use ds_world::{Event, Log, Reply, Step};
 use std::alloc::Global;
 use std::process::Abort;
 use std::test::Fail;
@@ -301,5 +301,10 @@ fn a_report_has_a_part_for_each_event(rt: HostRuntime) -> Result<(), Fail> {
     let report = whole(alloc, &scenario(&rt, alloc)?, &events, &replies, &tree)?;
     assert_eq!(rt; report.as_slice(), want.into_bytes().as_slice());
     assert_eq!(rt; listing(alloc, &tree)?.as_slice(), LISTING);
+    let mut want = Growing::new(alloc);
+    want.bytes(b"changes 0\n")?;
+    want.bytes(LISTING)?;
+    let empty = text(alloc, &scenario(&rt, alloc)?, &Log::new(alloc), &tree)?;
+    assert_eq!(rt; empty.as_slice(), want.into_bytes().as_slice());
     Ok(())
 }

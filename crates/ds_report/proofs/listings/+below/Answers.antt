@@ -1,5 +1,4 @@
-use Rattle.std.proofs.Common.{◌≡◌, ap, sym, length, ◌∙◌, arith}
-use Rattle.ds_report.specs.Listing.{path_in}
+use Rattle.std.proofs.Common.{ap, sym, length, ◌∙◌, arith}
 use Rattle.ds_report.proofs.NextEntries.{IsListedTo-start, IsListedTo-next, IsListedTo-end, entries_above-next}
 use Rattle.ds_report.proofs.listings.+below.Goals as goal
 
