@@ -2,3 +2,4 @@ mod Cuts
 mod FirstLineLaws
 mod FirstListLaws
 mod EdgeLaws
+pub mod PromiseLaws

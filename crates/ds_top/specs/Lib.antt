@@ -1,3 +1,4 @@
 pub mod Outcomes
 pub mod Edges
 pub mod FirstLines
+pub mod Promise

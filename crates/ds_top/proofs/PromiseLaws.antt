@@ -1,0 +1,105 @@
+-- What the parts of a run come to.
+use Rattle.std.proofs.Common.{◌≡◌, ℕ, suc, ◌≤◌, ◌<◌, ◌==◌, Bool, true, map, List, [], ◌∷◌, length, take, get_or, refl, ap, sym, subst, ◌∙◌, arith, Option, Some, None}
+use Rattle.std.specs.Prelude.{slice_get, IfSome}
+use Rattle.std.specs.Str.{bytes_eq}
+use Rattle.std.proofs.Math.Seq.{take-length}
+use Rattle.std.proofs.lemmas.Bool.Decides.{nat_tests}
+use Rattle.std.proofs.lemmas.Slice.Eq.{bytes_eq-Decides}
+use Rattle.std.proofs.lemmas.Option.{slice_get-get_or}
+use Rattle.ds_base.specs.declared.geometry.Geom.{Geom}
+use Rattle.ds_tree.specs.declared.scenarios.Scenario.{Scenario}
+use Rattle.ds_tree.specs.Nodes.{FileTree}
+use Rattle.ds_tree.specs.FirstForm.{first_geom, IsFirstForm, Spells}
+use Rattle.ds_world.specs.declared.logs.Event.{Event}
+use Rattle.ds_world.specs.declared.logs.Reply.{Reply}
+use Rattle.ds_world.specs.LogValues.{LogValue}
+use Rattle.ds_world.specs.Store.{store, change_count}
+use Rattle.ds_world.specs.Commits.{commits}
+use Rattle.ds_world.specs.History.{Calls}
+use Rattle.ds_world.specs.Headline.{StandsAfter, Headline}
+use Rattle.ds_world.specs.Scripts.{calls_of}
+use Rattle.ds_world.specs.Follows.{Follows, IsAtEnd, InReplayOrder}
+use Rattle.ds_world.specs.FirstRules.{first_rules}
+use Rattle.ds_report.specs.Report.{report_of, AreInOrder}
+use Rattle.ds_top.specs.declared.outcome.Why.{Why}
+use Rattle.ds_top.specs.declared.outcome.Why.TheVariants.{Done, BadLine, TooLarge, BadWords, ReadFault, WriteFault, Memory}
+use Rattle.ds_top.specs.Edges.{IsReadWhole}
+use Rattle.ds_top.specs.Promise.{IsReplayOf, Allows, RefusesBytes, most_bytes}
+
+-- the replies of a log that follows a scenario are in the order of their events
+pub in_order : (s : Scenario) (events : List Event) (replies : List Reply) → Follows first_rules.start s events replies → AreInOrder replies
+in_order s events replies follows i j d less within =
+    let first = slice_get-get_or replies i d (omega arith) in
+    let second = slice_get-get_or replies j d within in
+    follows.rising i j (get_or replies i d) (get_or replies j d) less first second
+
+-- the tree of the last commit is the one for which the device stands at the end
+last_of : (g : Geom) (calls : Calls) (events : List Event) (replies : List Reply) (h : Headline first_rules g calls events replies) (t : FileTree)
+    → ((u : FileTree) → first_rules.StandsFor (store first_rules.start events) u → u ≡ t) → slice_get h.trees (commits first_rules events) ≡ Some t
+last_of g calls events replies h t only =
+    let P : List Event → Type 0 = StandsAfter first_rules h.trees in
+    let now : StandsAfter first_rules h.trees events = subst P (take-length events) (h.image (length events) (omega arith)) in
+    now.there ∙ ap Some (only now.tree now.stands)
+
+whole_replay : (s : Scenario) (log : LogValue) (t : FileTree) (text : List ℕ) → Headline first_rules s.geom (calls_of s log.replies) log.events log.replies
+    → Follows first_rules.start s log.events log.replies → IsAtEnd s log.events log.replies → InReplayOrder (length s.hosts) s.steps log.events
+    → change_count log.events ≡ commits first_rules log.events → ((u : FileTree) → first_rules.StandsFor (store first_rules.start log.events) u → u ≡ t)
+    → text ≡ report_of s log.events log.replies t → IsReplayOf s log text
+whole_replay s log t text headline follows at_end in_order' changes only is_report = record {
+  follows = follows;
+  at_end = at_end;
+  in_order = in_order';
+  headline = headline;
+  last = t;
+  is_last = last_of s.geom (calls_of s log.replies) log.events log.replies headline t only;
+  changes = changes;
+  is_report = is_report;
+}
+
+-- what a world's log promises, said of the scenario that it was made from
+pub replayed : (s w : Scenario) (log kept : LogValue) (t : FileTree) (text : List ℕ) → IsFirstForm s → w ≡ s → kept ≡ log
+    → Headline first_rules first_geom (calls_of w log.replies) log.events log.replies → Follows first_rules.start w log.events log.replies
+    → IsAtEnd w log.events log.replies → InReplayOrder (length w.hosts) w.steps log.events → change_count log.events ≡ commits first_rules log.events
+    → ((u : FileTree) → first_rules.StandsFor (store first_rules.start log.events) u → u ≡ t) → text ≡ report_of s log.events log.replies t → IsReplayOf s kept text
+replayed s w log kept t text form same is headline follows at_end order changes only is_report =
+    let geom : first_geom ≡ s.geom = sym form.geom in
+    let H : Scenario → Type 0 = λ x. Headline first_rules first_geom (calls_of x log.replies) log.events log.replies in
+    let G : Geom → Type 0 = λ g. Headline first_rules g (calls_of s log.replies) log.events log.replies in
+    let F : Scenario → Type 0 = λ x. Follows first_rules.start x log.events log.replies in
+    let E : Scenario → Type 0 = λ x. IsAtEnd x log.events log.replies in
+    let O : Scenario → Type 0 = λ x. InReplayOrder (length x.hosts) x.steps log.events in
+    let K : LogValue → Type 0 = λ x. IsReplayOf s x text in
+    subst K (sym is) (whole_replay s log t text (subst G geom (subst H same headline)) (subst F same follows) (subst E same at_end) (subst O same order) changes only is_report)
+
+-- a refusal of bytes within the limit is allowed
+pub allows_refused : (bytes : List ℕ) (why : Why) → length bytes ≤ most_bytes → RefusesBytes bytes why → Allows bytes why
+allows_refused bytes (BadLine line why) le refused = (refused.0, refused.1, le, refused.2)
+allows_refused bytes Memory le refused = tt
+allows_refused bytes Done le refused = absurd refused
+allows_refused bytes (TooLarge what) le refused = absurd refused
+allows_refused bytes BadWords le refused = absurd refused
+allows_refused bytes ReadFault le refused = absurd refused
+allows_refused bytes WriteFault le refused = absurd refused
+
+-- what the bytes that were read allow, the bytes of the source allow
+pub input_read : (left left' : Option (List ℕ)) (bytes : List ℕ) (why : Why) → IsReadWhole left left' bytes → Allows bytes why → IfSome left (λ all. Allows all why)
+input_read None left' bytes why whole allows = tt
+input_read (Some all) left' bytes why whole allows = let P : List ℕ → Type 0 = λ xs. Allows xs why in subst P (sym whole.0) allows
+
+some_left : (n : ℕ) → true ≡ (suc n == 0) → ⊥
+some_left n is = grind (arith, nat_tests)
+
+none_left : {A : Type 0} (rest : List A) → true ≡ (length rest == 0) → rest ≡ []
+none_left [] e = refl
+none_left (x ∷ rest) e = absurd (some_left (length rest) e)
+
+-- one word that compares equal is the list of that word
+pub one_word : {A : Type 0} (f : A → List ℕ) (words : List A) (word : A) (rest : List A) (b : Bool) (bytes other want : List ℕ) → words ≡ word ∷ rest → true ≡ (length rest == 0)
+    → b ≡ bytes_eq bytes other → bytes ≡ f word → other ≡ want → (b ≡ true → map f words ≡ want ∷ []) × (map f words ≡ want ∷ [] → b ≡ true)
+one_word f words word rest b bytes other want is none compared shown wanted =
+    let alone : words ≡ word ∷ [] = is ∙ ap (λ xs. word ∷ xs) (none_left rest none) in
+    let same : map f words ≡ f word ∷ [] = ap (map f) alone in
+    let decides = bytes_eq-Decides bytes other in (
+      (λ yes'. same ∙ ap (λ (x : List ℕ). x ∷ []) (sym shown ∙ decides.0 (sym compared ∙ yes') ∙ wanted)),
+      (λ e. let head : f word ≡ want = cc (sym same ∙ e) in compared ∙ decides.1 (shown ∙ head ∙ sym wanted)),
+    )
