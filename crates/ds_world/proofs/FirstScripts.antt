@@ -46,6 +46,10 @@ pub calls_of-next : (s : Scenario) (replies : List Reply) (n : ℕ) (call : Root
 calls_of-next s replies n call due =
     ap (call_of (key_of s replies 0 (n + 1))) (directive_at-next s 0 n ∙ due) ∙ call_of-root (key_of s replies 0 (n + 1)) call refl
 
+-- a registration is no tree call
+pub calls_of-register : (s : Scenario) (replies : List Reply) (n : ℕ) → slice_get (list_of s 0) n ≡ Some register → calls_of s replies 0 (n + 1) ≡ None
+calls_of-register s replies n due = ap (call_of (key_of s replies 0 (n + 1))) (directive_at-next s 0 n ∙ due)
+
 no_ticks : (d : Directive) → IsFirstDirective d → ticks_of (Some d) ≡ 0
 no_ticks (directives.Call call bind) is = refl
 no_ticks (directives.Tick ticks) is = absurd is

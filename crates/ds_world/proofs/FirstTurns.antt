@@ -47,7 +47,7 @@ use Rattle.ds_world.proofs.Growing.{store-push, commits-take, commits-push_none,
 use Rattle.ds_world.proofs.Legal.{IsGiven-push, IsLegal-event, IsLegal-change, IsLegal-reply}
 use Rattle.ds_world.proofs.Whole.{whole-reply, whole-event, whole-commit, StandsAfter-tree}
 use Rattle.ds_world.proofs.Following.{finished-later, held-later, follows-event, follows-answered}
-use Rattle.ds_world.proofs.FirstScripts.{list_is, calls_of-next, clock-first}
+use Rattle.ds_world.proofs.FirstScripts.{list_is, calls_of-next, calls_of-register, clock-first}
 use Rattle.ds_world.proofs.FirstDoes.{named, numbered-push, does_create}
 use Rattle.ds_world.proofs.FirstSteps.{none_later, creates_left, done-push, own-push, reached-event, reached-reply, reached-change}
 
@@ -112,8 +112,8 @@ place_bound : (w : FirstWorldValue) (h : FirstHolds w) (q : Reply) (m : ℕ) (an
 place_bound w h q m (Tree x) place stands =
     let same : m ≡ stands.p = cc (place, stands.place) in
     omega (arith, same, stands.to, commits-take first_rules w.log.events (q.event + 1))
-place_bound w h q m (Registered slot generation) place stands = absurd (cc (place, stands))
-place_bound w h q m (Damaged sector) place stands = absurd (cc (place, stands))
+place_bound w h q m (Registered slot generation) place stands = absurd (cc (place, stands.0))
+place_bound w h q m (Damaged sector) place stands = absurd stands
 
 places_before : (w : FirstWorldValue) (h : FirstHolds w) (i : ℕ) (q : Reply) (m : ℕ) → slice_get w.log.replies i ≡ Some q → q.place ≡ Some m
     → m ≤ commits first_rules w.log.events
@@ -177,7 +177,7 @@ turn-registered w h rest due =
       whole = whole-reply first_rules calls (events ++ e ∷ []) replies h.changes r (whole-event first_rules calls events replies h.changes e refl h.whole);
       legal = IsLegal-reply first_rules first_geom calls (events ++ e ∷ []) replies h.trees h.changes r
           (record { event = e; there = get-push_last events e; is_of = (refl, refl) })
-          refl
+          (refl, calls_of-register w.scenario [] w.position due)
           (λ i q at host directive. no_reply_yet w h i q at directive)
           (λ i q m n at host place now. absurd (cc now))
           (IsLegal-event first_rules first_geom calls events replies h.trees h.changes e h.legal);

@@ -1,5 +1,5 @@
 -- What contracts see of the first world, and what holds of it after any turns.
-use Rattle.std.specs.Prelude.{◌≡◌, ◌≢◌, ℕ, ◌+◌, ◌-◌, ◌*◌, ◌≤◌, ◌<◌, nat_lt, Bool, true, false, List, [], ◌∷◌, ◌++◌, length, map, drop, replicate, count_by, slice_get, All, Option, Some, None, MatchOption, if◌then◌else◌}
+use Rattle.std.specs.Prelude.{◌≡◌, ◌≢◌, ℕ, ◌+◌, ◌-◌, ◌*◌, ◌≤◌, ◌<◌, ◌⊎◌, nat_lt, Bool, true, false, List, [], ◌∷◌, ◌++◌, length, map, drop, replicate, count_by, slice_get, All, Option, Some, None, MatchOption, if◌then◌else◌}
 use Rattle.ds_base.specs.declared.sectors.Sector.{Sector}
 use Rattle.ds_base.specs.declared.commands.Command.{Command}
 use Rattle.ds_base.specs.declared.commands.Response.{Response}
@@ -178,11 +178,12 @@ pub record IsSameButRoom (old new : FirstWorldValue) : Type 0 where
   pub same_events : new.log.events ≡ old.log.events
   pub same_replies : new.log.replies ≡ old.log.replies
 
--- a turn that added an event
+-- a turn that added an event, and at most one reply
 pub record AddsEvent (old new : FirstWorldValue) : Type 0 where
   pub was_due : old.position < length (list_of old.scenario 0)
   pub event : Event
   pub added : new.log.events ≡ old.log.events ++ event ∷ []
+  pub replied : (new.log.replies ≡ old.log.replies) ⊎ ((reply : Reply) × (new.log.replies ≡ old.log.replies ++ reply ∷ []))
   pub same_scenario : new.scenario ≡ old.scenario
   pub fewer : turns_left new < turns_left old
 

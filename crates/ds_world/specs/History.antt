@@ -76,11 +76,12 @@ pub record HasPlace (rules : Rules) (g : Geom) (calls : Calls) (events : List Ev
   pub from : (n : ℕ) → IsFirstEvent events r.host r.directive n → commits rules (take n events) ≤ p
   pub to : p ≤ commits rules (take (r.event + 1) events)
 
--- where a reply stands: an answer of the file tree has a place, and no other answer has one
+-- where a reply stands: an answer of the file tree has a place; a registration has none, and answers no tree call; and nothing
+-- that was read is ever damaged
 abbrev pub Stands : Rules → Geom → Calls → List Event → List FileTree → List Change → Reply → HostAnswer → Type 0
 Stands rules g calls events trees changes r (Tree x) = HasPlace rules g calls events trees changes r x
-Stands rules g calls events trees changes r (Registered slot generation) = r.place ≡ None
-Stands rules g calls events trees changes r (Damaged sector) = r.place ≡ None
+Stands rules g calls events trees changes r (Registered slot generation) = (r.place ≡ None) × (calls r.host r.directive ≡ None)
+Stands rules g calls events trees changes r (Damaged sector) = ⊥
 
 -- a reply is given in an event of its call
 pub record IsGiven (events : List Event) (r : Reply) : Type 0 where

@@ -74,6 +74,7 @@ impl FirstWorld {
     pub fn new(alloc: Global, scenario: &Scenario) -> Result<FirstWorld, NoMemory>
         requires { IsFirstForm scenario.now }
         ensures scenario { IfOk result (λ w. w.scenario ≡ scenario.now) }
+        ensures position { IfOk result (λ w. w.position ≡ 0) }
         ensures events { IfOk result (λ w. w.log.events ≡ []) }
         ensures replies { IfOk result (λ w. w.log.replies ≡ []) }
     {

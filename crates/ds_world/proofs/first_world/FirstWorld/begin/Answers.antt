@@ -1,4 +1,4 @@
-use Rattle.std.proofs.Common.{◌≡◌, ◌+◌, ◌<◌, ◌++◌, ◌∷◌, [], List, true, false, length, refl, sym, ap, subst, ◌∙◌, arith, Some, None, Option}
+use Rattle.std.proofs.Common.{inl, inr, ◌≡◌, ◌+◌, ◌<◌, ◌++◌, ◌∷◌, [], List, true, false, length, refl, sym, ap, subst, ◌∙◌, arith, Some, None, Option}
 use Rattle.ds_base.specs.declared.commands.Command.TheVariants.{Read, Swap}
 use Rattle.ds_host.specs.declared.answers.HostAnswer.{HostAnswer}
 use Rattle.ds_host.specs.declared.first_host.Stage.TheVariants.{Rest, Reading, Filling}
@@ -55,6 +55,7 @@ returns-in-Some-begin c =
       was_due = due;
       event = local_event w;
       added = events;
+      replied = inr (c.reply_of-reply.result, c.add_answered.ensures.replies);
       same_scenario = refl;
       fewer = fewer_answered (length (list_of w.scenario 0)) w.position (turns_at w.host.stage) (turns_at new.stage) due (ap turns_at rests) (ap (λ (s : FirstState). turns_at s.stage) is.2);
     })

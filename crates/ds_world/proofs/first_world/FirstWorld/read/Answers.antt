@@ -1,4 +1,4 @@
-use Rattle.std.proofs.Common.{◌≡◌, ◌+◌, ◌<◌, ◌++◌, ◌∷◌, [], List, true, false, length, refl, sym, ap, subst, ◌∙◌, arith, Some, None, Option}
+use Rattle.std.proofs.Common.{inl, inr, ◌≡◌, ◌+◌, ◌<◌, ◌++◌, ◌∷◌, [], List, true, false, length, refl, sym, ap, subst, ◌∙◌, arith, Some, None, Option}
 use Rattle.ds_base.specs.declared.commands.Command.TheVariants.{Read, Swap}
 use Rattle.ds_host.specs.declared.answers.HostAnswer.{HostAnswer}
 use Rattle.ds_host.specs.declared.first_host.Stage.TheVariants.{Rest, Reading, Filling}
@@ -95,6 +95,7 @@ returns-in-Some c =
       was_due = was_due w h call stage;
       event = sent_event w (Read 0) response false;
       added = events;
+      replied = inr (c.reply_of-reply.result, c.add_answered.ensures.replies);
       same_scenario = refl;
       fewer = fewer_answered (length (list_of w.scenario 0)) w.position (turns_at w.host.stage) (turns_at new.stage) (was_due w h call stage) (ap turns_at stage) is.turns;
     })
@@ -119,6 +120,7 @@ returns-in-None c =
       was_due = was_due w h call stage;
       event = sent_event w (Read 0) response false;
       added = events;
+      replied = inl c.add.ensures.replies;
       same_scenario = refl;
       fewer = fewer_filling _ (turns_at w.host.stage) (turns_at new.stage) (ap turns_at stage) is.turns;
     })

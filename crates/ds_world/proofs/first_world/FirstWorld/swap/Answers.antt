@@ -1,4 +1,4 @@
-use Rattle.std.proofs.Common.{◌≡◌, ◌+◌, ◌<◌, ◌++◌, ◌∷◌, [], List, true, false, length, refl, sym, ap, subst, ◌∙◌, arith, Some, None, Option}
+use Rattle.std.proofs.Common.{inl, inr, ◌≡◌, ◌+◌, ◌<◌, ◌++◌, ◌∷◌, [], List, true, false, length, refl, sym, ap, subst, ◌∙◌, arith, Some, None, Option}
 use Rattle.ds_base.specs.declared.commands.Command.TheVariants.{Read, Swap}
 use Rattle.ds_host.specs.declared.answers.HostAnswer.{HostAnswer}
 use Rattle.ds_host.specs.declared.first_host.Stage.TheVariants.{Rest, Reading, Filling}
@@ -72,6 +72,7 @@ returns c =
       was_due = due;
       event = sent_event w (Swap 0 verify fresh) response true;
       added = events;
+      replied = inr (c.reply_of-reply.result, c.add_answered.ensures.replies);
       same_scenario = refl;
       fewer = fewer_committed (length (list_of w.scenario 0)) w.position (turns_at w.host.stage) (turns_at new.stage) due (ap turns_at stage) is.turns;
     })
