@@ -8,7 +8,6 @@ use ds_base::{Key, Kind, Name, NoMemory, NodeKind};
 use ds_host::HostAnswer;
 use ds_tree::TreeReply;
 
-#[tactic(auto, using(crate::proofs::Pieces::then_two))]
 pub(crate) fn write_answer(text: &mut Growing, answer: &HostAnswer) -> Result<(), NoMemory>
     ensures { OnOk result (text.new ≡ text.old ++ answer_text answer.now) }
 {
@@ -25,7 +24,6 @@ pub(crate) fn write_answer(text: &mut Growing, answer: &HostAnswer) -> Result<()
     }
 }
 
-#[tactic(auto, using(crate::proofs::Pieces::then_two))]
 pub(crate) fn write_place(
     text: &mut Growing,
     answer: &HostAnswer,
@@ -70,7 +68,6 @@ fn write_reply(text: &mut Growing, reply: &TreeReply) -> Result<(), NoMemory>
     }
 }
 
-#[tactic(auto, using(crate::proofs::Pieces::then_two))]
 fn write_key(text: &mut Growing, key: Key) -> Result<(), NoMemory>
     ensures { OnOk result (text.new ≡ text.old ++ (codes "ok " ++ key_text key)) }
 {
@@ -78,7 +75,6 @@ fn write_key(text: &mut Growing, key: Key) -> Result<(), NoMemory>
     text.key(key)
 }
 
-#[tactic(auto, using(crate::proofs::Pieces::then_two))]
 fn write_number(text: &mut Growing, number: u32) -> Result<(), NoMemory>
     ensures { OnOk result (text.new ≡ text.old ++ (codes "ok " ++ decimal number)) }
 {
@@ -136,7 +132,6 @@ fn write_blocks(text: &mut Growing, blocks: &[u32]) -> Result<(), NoMemory>
     Ok(())
 }
 
-#[tactic(auto, using(crate::proofs::Pieces::then_two))]
 fn write_item(text: &mut Growing, number: u32) -> Result<(), NoMemory>
     ensures { OnOk result (text.new ≡ text.old ++ item_text number) }
 {

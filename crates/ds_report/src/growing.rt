@@ -44,7 +44,6 @@ impl Growing {
     }
 
     /// Two numbers with a dot between them.
-    #[tactic(auto, using(crate::proofs::Pieces::then_three))]
     pub(crate) fn pair(&mut self, first: u64, second: u64) -> Result<(), NoMemory>
         ensures { OnOk result (self.new ≡ self.old ++ pair_text first second) }
     {

@@ -1,7 +1,6 @@
 -- Which calls the words of a line can be.
-use Rattle.std.proofs.Common.{◌≡◌, ◌≢◌, ℕ, ◌<◌, List, [], ◌∷◌, ◌++◌, Contains, refl, sym, ap, subst, ◌∙◌, arith, rules, codes}
+use Rattle.std.proofs.Common.{◌≡◌, ◌≢◌, ℕ, List, ◌++◌, sym, ap, subst, ◌∙◌, arith, rules, codes}
 use Rattle.std.specs.Prelude.{Option, Some, None, slice_index}
-use Rattle.std.specs.List.{AllByRecursion}
 use Rattle.std.proofs.lemmas.List.{append_cancel_left}
 use Rattle.ds_base.specs.Decoding.{IsDecoded}
 use Rattle.ds_base.specs.Names.{IsName}
@@ -12,7 +11,7 @@ use Rattle.ds_tree.specs.declared.scenarios.Directive.{Directive}
 use Rattle.ds_tree.specs.declared.scenarios.Directive.TheVariants as directives
 use Rattle.ds_tree.specs.declared.variables.Spoken.TheVariants.{Root}
 use Rattle.ds_tree.specs.FirstForm.{IsFirstDirective, directive_words, line}
-use Rattle.ds_top.specs.FirstLines.{Begins, BeginsOnly, IsFirstLine}
+use Rattle.ds_top.specs.FirstLines.{Begins, IsFirstLine}
 use Rattle.ds_top.proofs.Cuts.{IsUnbroken, same_cut, IsUnbroken-append, IsUnbroken-from_none}
 
 abbrev pub create : List ℕ → Directive

@@ -1,5 +1,4 @@
-use Rattle.std.proofs.Common.{◌≡◌}
-use Rattle.ds_top.specs.FirstLines.{Begins, IsFirstLine}
+use Rattle.ds_top.specs.FirstLines.{IsFirstLine}
 use Rattle.ds_top.proofs.FirstLineLaws.{Begins-line, begins_with, not_both, same_answer}
 use Rattle.ds_top.proofs.first_form.next_call.Goals as goal
 

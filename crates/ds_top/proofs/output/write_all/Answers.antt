@@ -1,5 +1,3 @@
-use Rattle.std.proofs.Common.{◌≡◌, ◌+◌, ◌-◌, ◌≤◌, ◌++◌, length, take, drop, length-drop, sym, arith}
-use Rattle.std.proofs.Math.Seq.{take-add}
 use Rattle.std.proofs.lemmas.List.{take_rest}
 use Rattle.ds_top.proofs.EdgeLaws.{IsWrittenTo-next}
 use Rattle.ds_top.proofs.output.write_all.Goals as goal
