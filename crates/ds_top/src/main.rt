@@ -10,7 +10,7 @@ mod running;
 
 use ds_base::{StdSink, StdSource};
 use outcome::Why;
-use running::{Outcome, plain};
+use running::{Outcome, plain, refused};
 use std::alloc::AllocError;
 use std::process::ExitCode;
 use std::{env, io};
@@ -18,17 +18,32 @@ use std::{env, io};
 /// Runs the program on the real words, input and output, says on standard error why a run isn't done, and ends with its
 /// status.
 fn main(rt: HostRuntime) -> io::Result<ExitCode> {
-    let mut words = Vec::new(rt.alloc());
-    for word in env::args(&rt)?.skip(1) {
-        words.push(word)?;
-    }
-    let mut source = StdSource::new(rt.stdin());
-    let mut sink = StdSink::new(rt.stdout());
-    let outcome = plain(rt.alloc(), words.as_slice(), &mut source, &mut sink);
+    let outcome = match words(&rt) {
+        Ok(words) => {
+            let mut source = StdSource::new(rt.stdin());
+            let mut sink = StdSink::new(rt.stdout());
+            plain(rt.alloc(), words.as_slice(), &mut source, &mut sink)
+        }
+        Err(fault) => {
+            if fault.kind() != io::ErrorKind::OutOfMemory {
+                return Err(fault);
+            }
+            refused(Why::Memory)
+        }
+    };
     if outcome.why != Why::Done {
         eprintln!(rt; "{}", outcome.why)?;
     }
     Ok(ExitCode::from(outcome.status))
+}
+
+/// The words after the program's name.
+fn words(rt: &HostRuntime) -> io::Result<Vec<String>> {
+    let mut words = Vec::new(rt.alloc());
+    for word in env::args(rt)?.skip(1) {
+        words.push(word)?;
+    }
+    Ok(words)
 }
 
 #[cfg(test)]

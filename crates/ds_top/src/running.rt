@@ -102,7 +102,7 @@ fn why_of(fault: InputFault) -> Why
 }
 
 /// An outcome that writes nothing.
-fn refused(why: Why) -> Outcome
+pub(crate) fn refused(why: Why) -> Outcome
     ensures { result ≡ record { status = status_of why; why = why; log = None } }
 {
     Outcome {

@@ -12,4 +12,4 @@ pub loop-i-preserved : goal.loop-i-preserved
 loop-i-preserved c =
     let fresh : Sector = record { bytes = c.copy_from_slice.new.self } in
     write_turn c.args.lun.now c.args.at c.loop-i.i c.args.out.now fresh _ _
-      (omega arith) c.copy_from_slice.ensures.after c.loop-i.invariant c.write.ensures
+    (omega arith) c.copy_from_slice.ensures.after c.loop-i.invariant c.write.ensures
