@@ -1,6 +1,7 @@
 //! The file tree, the calls on it, and the scenarios that hosts carry out.
 #![tactic(auto)]
 
+mod builders;
 mod calls;
 mod changes;
 mod counts;
@@ -10,11 +11,13 @@ mod reads;
 mod refusals;
 mod scenarios;
 mod steps;
+mod tables;
 #[cfg(test)]
 mod tests;
 mod trees;
 mod variables;
 
+pub use builders::TreeBuilder;
 pub use calls::{Call, CallOf, HostCall, HostCallOf, TreeReply};
 pub use scenarios::{Directive, HostPlan, Items, Point, Scenario};
 pub use trees::Tree;

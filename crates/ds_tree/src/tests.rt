@@ -1,7 +1,6 @@
-ghost use Rattle.std.specs.Prelude.{◌≡◌, IfSome, IfOk};
+ghost use Rattle.std.specs.Prelude.{IfSome};
 ghost use Rattle.ds_base.specs.Names.{IsName};
 ghost use Rattle.ds_tree.specs.CallNames.{HasNames};
-ghost use Rattle.ds_tree.specs.WellFormed.{IsTree};
 
 use super::*;
 use ds_base::{Geom, Key, Name, NoMemory, NodeKind, Word};
@@ -26,9 +25,7 @@ fn name(bytes: &[u8]) -> Option<Word>
 }
 
 /// The tree of a new volume.
-fn fresh(rt: &impl Abort, alloc: Global) -> Result<Tree, NoMemory>
-    ensures { IfOk result (λ tree. IsTree tree.geom tree.tree) }
-{
+fn fresh(rt: &impl Abort, alloc: Global) -> Result<Tree, NoMemory> {
     let geom = Geom {
         slots: 4,
         block: 1,
@@ -40,9 +37,7 @@ fn fresh(rt: &impl Abort, alloc: Global) -> Result<Tree, NoMemory>
 }
 
 fn step(rt: &impl Abort, tree: &mut Tree, call: &Call) -> Result<TreeReply, NoMemory>
-    requires names { HasNames call.now }
-    requires tree { IsTree tree.old.geom tree.old.tree }
-    ensures { IsTree tree.new.geom tree.new.tree }
+    requires { HasNames call.now }
 {
     assert!(rt; !tree.worn());
     tree.call(call)
