@@ -1,6 +1,8 @@
 //! The file tree, the calls on it, and the scenarios that hosts carry out.
 #![tactic(auto)]
 
+#[cfg(test)]
+mod big_tests;
 mod builders;
 mod calls;
 mod changes;
@@ -8,6 +10,8 @@ mod counts;
 mod listing;
 mod objects;
 mod reads;
+#[cfg(test)]
+mod refusal_tests;
 mod refusals;
 mod scenarios;
 mod steps;

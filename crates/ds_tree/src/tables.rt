@@ -162,7 +162,12 @@ impl Table {
     }
 
     /// Puts an entry into a directory.
-    pub(crate) fn put_entry(&mut self, dir: ObjNo, name: Name, object: ObjNo) -> Result<(), NoMemory>
+    pub(crate) fn put_entry(
+        &mut self,
+        dir: ObjNo,
+        name: Name,
+        object: ObjNo,
+    ) -> Result<(), NoMemory>
         requires { is_dir (node_at self.old.tree dir) ≡ true }
         ensures geom { self.new.geom ≡ self.old.geom }
         ensures ok { OnOk result (self.new.tree ≡ with_node self.old.tree dir
