@@ -9,7 +9,9 @@ use crate::reports::{text, whole};
 use arrayvec::ArrayVec;
 use ds_base::{Command, Geom, Key, Kind, Name, NodeKind, Response, Sector, Word};
 use ds_host::HostAnswer;
-use ds_tree::{Call, CallOf, Directive, HostCallOf, HostPlan, Items, Scenario, Spoken, Tree, TreeReply};
+use ds_tree::{
+    Call, CallOf, Directive, HostCallOf, HostPlan, Items, Scenario, Spoken, Tree, TreeReply,
+};
 use ds_world::{Event, Log, Reply, Step};
 use std::alloc::Global;
 use std::process::Abort;
