@@ -1,0 +1,6 @@
+//! The text of scenarios: how it is read, and whether its directives can all pass.
+#![tactic(auto)]
+
+mod passing;
+
+pub use passing::{Pass, plain_pass};
