@@ -1,5 +1,5 @@
 -- The counts of a plain pass: none at first, and one more of a host whose next directive is free to pass.
-use Rattle.std.proofs.Common.{◌≡◌, ℕ, zero, suc, ◌+◌, ◌≤◌, ◌<◌, ◌≢◌, ◌⊎◌, inl, inr, true, false, List, [], ◌∷◌, length, set, replicate, get_or, Bool, refl, ap, sym, ◌∙◌, subst, arith, get_or-set_same, get_or-set_other, length-set}
+use Rattle.std.proofs.Common.{◌≡◌, ℕ, zero, suc, ◌+◌, ◌≤◌, ◌<◌, ◌≢◌, ◌⊎◌, inl, inr, true, false, List, [], ◌∷◌, length, replicate, Bool, refl, ap, ◌∙◌, subst, arith, get_or-set_same, get_or-set_other, length-set}
 use Rattle.std.specs.Prelude.{slice_index, slice_set, sum, ◌==◌, ◌&&◌, if◌then◌else◌}
 use Rattle.std.specs.List.{sum_by}
 use Rattle.std.proofs.lemmas.Bool.{cases_lt, cases_eq}
@@ -80,9 +80,10 @@ module _ (plans : List HostPlan) (old new : ℕ → ℕ) (host : ℕ) where
       | inr now ↦
           let P : ℕ → Type 0 = λ g. Needs plans g n other i in
           let Q : ℕ → Type 0 = λ m. Needs plans host m other i in
-          let is = free other i (subst Q now.1 (subst P now.0 needs)) in
-          (omega (arith, is, grows steps other),
-          omega (arith, rank-old other i is, below other i is, rank-next h n now.0 now.1))
+          let is = free other i (subst Q now.1 (subst P now.0 needs)) in (
+            omega (arith, is, grows steps other),
+            omega (arith, rank-old other i is, below other i is, rank-next h n now.0 now.1),
+          )
     ]
 
     within : (h : ℕ) → new h ≤ length (list_at plans h)

@@ -1,8 +1,8 @@
 -- What a plain pass tells is the one answer that is so.
-use Rattle.std.proofs.Common.{◌≡◌, ℕ, ◌+◌, ◌≤◌, ◌<◌, List, length, refl, ap, sym, ◌∙◌, subst, arith}
+use Rattle.std.proofs.Common.{◌≡◌, ℕ, List, refl, ap, ◌∙◌, subst, arith}
 use Rattle.std.specs.Prelude.{slice_index, ◌↔◌}
 use Rattle.ds_tree.specs.declared.scenarios.HostPlan.{HostPlan}
-use Rattle.ds_tree.specs.PlainPass.{list_at, Passes, PassesAll, IsStuck}
+use Rattle.ds_tree.specs.PlainPass.{PassesAll, IsStuck}
 use Rattle.ds_tree.proofs.PlainPasses.{one_answer, same_stuck}
 use Rattle.ds_script.specs.declared.passing.Pass.{Pass}
 use Rattle.ds_script.specs.declared.passing.Pass.TheVariants.{Passed, Stuck}

@@ -1,10 +1,10 @@
 -- Whether a host's next directive can pass, from whether the host for which it waits has come far enough.
-use Rattle.std.proofs.Common.{◌≡◌, ℕ, Option, ◌≤◌, ◌<◌, Bool, true, false, List, length, min, Some, MatchBool, subst, sym, ap, ◌∙◌, refl, arith}
-use Rattle.std.specs.Prelude.{nat_le, slice_get, slice_index, slice_index_or}
+use Rattle.std.proofs.Common.{◌≡◌, ℕ, Option, ◌≤◌, ◌<◌, Bool, true, false, List, length, min, Some, MatchBool, subst, sym, ap, ◌∙◌, arith}
+use Rattle.std.specs.Prelude.{nat_le, slice_index, slice_index_or}
 use Rattle.std.proofs.lemmas.Bool.{leb-true, leb-false}
 use Rattle.std.proofs.lemmas.Option.{slice_get-get_or}
 use Rattle.ds_tree.specs.declared.scenarios.HostPlan.{HostPlan}
-use Rattle.ds_tree.specs.PlainPass.{list_at, directives_of, wait_at, Needs, IsHeldUp}
+use Rattle.ds_tree.specs.PlainPass.{list_at, directives_of, wait_at}
 use Rattle.ds_script.specs.Passing.{IsFree, Rests}
 
 -- the directives of a host that is there

@@ -2,5 +2,7 @@
 #![tactic(auto)]
 
 mod passing;
+#[cfg(test)]
+mod tests;
 
 pub use passing::{Pass, plain_pass};

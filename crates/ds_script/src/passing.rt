@@ -115,7 +115,9 @@ fn held_by(before: &Directive) -> Option<(HostNo, u32)>
 {
     match before {
         Directive::Hold {
-            host, directive, ..
+            host,
+            directive,
+            ..
         } => Some((*host, *directive)),
         _ => None,
     }

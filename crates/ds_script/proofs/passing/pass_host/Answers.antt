@@ -1,4 +1,4 @@
-use Rattle.std.proofs.Common.{◌≡◌, sym, arith}
+use Rattle.std.proofs.Common.{sym, arith}
 use Rattle.std.proofs.lemmas.Bool.{false≢true}
 use Rattle.ds_script.proofs.Advances.{HasPassed-more, sum_risen}
 use Rattle.ds_script.proofs.passing.pass_host.Goals as goal

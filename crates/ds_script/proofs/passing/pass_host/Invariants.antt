@@ -1,4 +1,4 @@
-use Rattle.std.proofs.Common.{◌≡◌, ℕ, ◌-◌, ◌<◌, length, true, false}
+use Rattle.std.proofs.Common.{◌≡◌, ◌-◌, ◌<◌, length, true, false}
 use Rattle.std.specs.Prelude.{slice_index, sum}
 use Rattle.ds_tree.specs.PlainPass.{list_at}
 use Rattle.ds_script.specs.Passing.{HasPassed}
