@@ -1,5 +1,5 @@
 -- The counts of a plain pass: none at first, and one more of a host whose next directive is free to pass.
-use Rattle.std.proofs.Common.{◌≡◌, ℕ, zero, suc, ◌+◌, ◌≤◌, ◌<◌, ◌≢◌, ◌⊎◌, inl, inr, true, false, List, [], ◌∷◌, length, replicate, Bool, refl, ap, ◌∙◌, subst, arith, get_or-set_same, get_or-set_other, length-set}
+use Rattle.std.proofs.Common.{◌≡◌, ℕ, suc, ◌+◌, ◌≤◌, ◌<◌, ◌≢◌, ◌⊎◌, inl, inr, true, false, List, [], ◌∷◌, length, replicate, Bool, refl, ap, ◌∙◌, subst, arith, get_or-set_same, get_or-set_other, length-set}
 use Rattle.std.specs.Prelude.{slice_index, slice_set, sum, ◌==◌, ◌&&◌, if◌then◌else◌}
 use Rattle.std.specs.List.{sum_by}
 use Rattle.std.proofs.lemmas.Bool.{cases_lt, cases_eq}
@@ -98,13 +98,13 @@ module _ (plans : List HostPlan) (old new : ℕ → ℕ) (host : ℕ) where
 zero_at : (n i : ℕ) → slice_index (replicate n 0) i ≡ 0
 zero_at n i = elim (cases_lt i n) [
   | inl there ↦ get_or-replicate n i 0 0 there
-  | inr past ↦ get_or_past (replicate n 0) i 0 (omega (arith, past, length-replicate n (zero)))
+  | inr past ↦ get_or_past (replicate n 0) i 0 (omega (arith, past, length-replicate {A = ℕ} n 0))
 ]
 
 -- at first nothing is passed
-pub HasPassed-none : (plans : List HostPlan) (n : ℕ) → n ≡ length plans → HasPassed plans (replicate n 0)
-HasPassed-none plans n count = record {
-  hosts = length-replicate n 0 ∙ count;
+pub HasPassed-none : (plans : List HostPlan) → HasPassed plans (replicate (length plans) 0)
+HasPassed-none plans = let n = length plans in record {
+  hosts = length-replicate n 0;
   passes = record {
     rank = λ h m. 0;
     within = λ h. omega (arith, zero_at n h);

@@ -1,8 +1,8 @@
-//! The text of scenarios: how it is read, and whether its directives can all pass.
+//! Scenarios: whether their directives can all pass.
 #![tactic(auto)]
 
 mod passing;
 #[cfg(test)]
-mod tests;
+mod passing_tests;
 
 pub use passing::{Pass, plain_pass};

@@ -16,7 +16,8 @@ pub enum Pass {
     Stuck { host: HostNo, directive: u32 },
 }
 
-/// Passes the directives of a scenario.
+/// Goes through the hosts of a scenario until a round passes nothing. A round looks once at each host, and once more for each
+/// directive that it passes.
 pub fn plain_pass(alloc: Global, scenario: &Scenario) -> Result<Pass, NoMemory>
     requires { AreNumbered scenario.now.hosts }
     ensures passed { IfOk result (λ pass. (pass ≡ Pass.Passed) ↔ PassesAll scenario.now.hosts) }
@@ -28,6 +29,7 @@ pub fn plain_pass(alloc: Global, scenario: &Scenario) -> Result<Pass, NoMemory>
     Ok(pass_all(plans, passed.as_mut_slice()))
 }
 
+/// The counts of so many hosts before anything passes.
 fn zeros(alloc: Global, count: usize) -> Result<Vec<usize>, NoMemory>
     ensures { IfOk result (λ v. v.items ≡ replicate count 0) }
 {

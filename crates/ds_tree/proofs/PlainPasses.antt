@@ -47,7 +47,8 @@ module _ (plans : List HostPlan) where
   same_stop passed stop p stopped q stops host =
       omega (arith, within_stop passed stop p stops host, within_stop stop passed q stopped host)
 
-  same_passed : (host directive host' directive' : ℕ) (a : IsStuck plans host directive) (b : IsStuck plans host' directive') → (h : ℕ)
+  -- the counts at which a stuck scenario stops are the same in each of its answers
+  pub same_passed : (host directive host' directive' : ℕ) (a : IsStuck plans host directive) (b : IsStuck plans host' directive') → (h : ℕ)
       → a.passed h ≡ b.passed h
   same_passed host directive host' directive' a b = same_stop a.passed b.passed a.passes a.stops b.passes b.stops
 

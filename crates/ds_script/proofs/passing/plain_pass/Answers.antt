@@ -1,4 +1,4 @@
-use Rattle.std.proofs.Common.{◌≡◌, ℕ, List, length, sym, ◌∙◌, subst, refl}
+use Rattle.std.proofs.Common.{◌≡◌, ℕ, List, sym, ◌∙◌, subst}
 use Rattle.ds_tree.specs.declared.scenarios.HostPlan.{HostPlan}
 use Rattle.ds_script.specs.declared.passing.Pass.{Pass}
 use Rattle.ds_script.specs.Passing.{HasPassed, IsSo}
@@ -10,8 +10,9 @@ pub pass_all-requires-clause-passed : goal.pass_all-requires-clause-passed
 pass_all-requires-clause-passed c =
     let plans = c.as_slice-plans.result.now in
     let P : List ℕ → Type 0 = λ passed. HasPassed plans passed in
-    subst P (sym (c.as_mut_slice.ensures.value ∙ c.in_ok-passed.ensures)) (HasPassed-none plans (length plans) refl)
+    subst P (sym (c.as_mut_slice.ensures.value ∙ c.in_ok-passed.ensures)) (HasPassed-none plans)
 
+-- the hosts that were gone through are the scenario's
 so : (plans hosts : List HostPlan) → plans ≡ hosts → (pass : Pass) → IsSo plans pass → IsSo hosts pass
 so plans hosts same pass is = let P : List HostPlan → Type 0 = λ list. IsSo list pass in subst P same is
 

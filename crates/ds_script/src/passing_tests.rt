@@ -62,6 +62,7 @@ fn scenario_of(alloc: Global, count: HostNo, lines: &[(HostNo, Line)]) -> Result
     })
 }
 
+/// Whether a scenario is within the limits of scenarios.
 fn is_numbered(plans: &[HostPlan]) -> bool
     ensures { IsTrue result → AreNumbered plans.now }
 {
@@ -157,6 +158,8 @@ fn passes_or_tells_the_first_host_that_is_stuck(rt: HostRuntime) -> Result<(), F
                 directive: 2,
             },
         ),
+        // a wait for an earlier directive of the host itself
+        (1, &[(0, Line::Call), (0, Line::Wait(0, 1))], Pass::Passed),
         // a host without directives
         (2, &[(0, Line::Wait(1, 1))], Pass::Passed),
         (0, &[], Pass::Passed),
