@@ -9,3 +9,4 @@ pub mod Codes
 pub mod CallNames
 pub mod WellFormed
 pub mod Lowest
+pub mod PlainPass
