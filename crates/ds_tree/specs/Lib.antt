@@ -9,3 +9,5 @@ pub mod Codes
 pub mod CallNames
 pub mod WellFormed
 pub mod Lowest
+pub mod Lines
+pub mod Grammar
