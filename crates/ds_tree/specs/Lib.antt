@@ -11,3 +11,4 @@ pub mod WellFormed
 pub mod Lowest
 pub mod Lines
 pub mod Grammar
+pub mod PlainPass
