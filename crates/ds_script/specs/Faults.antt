@@ -1,6 +1,6 @@
 -- What is wrong with a text of a scenario: the first line that is bad or passes a limit, and why.
-use Rattle.std.specs.Prelude.{◌≡◌, ℕ, ◌+◌, ◌≤◌, ◌<◌, ◌⊎◌, Bool, true, false, not, ◌&&◌, ◌||◌, nat_le, nat_lt, if◌then◌else◌, List, [], ◌∷◌, ◌++◌, length, map, filter, filter_map, count_by, sum_by, find, take, drop, slice_index_or, codes, Option, Some, None, option_map, is_some}
-use Rattle.std.specs.List.{list_any, list_all}
+use Rattle.std.specs.Prelude.{◌≡◌, ℕ, ◌+◌, ◌<◌, ◌⊎◌, Bool, true, false, not, ◌&&◌, ◌||◌, nat_le, nat_lt, if◌then◌else◌, List, [], ◌∷◌, ◌++◌, length, map, filter, count_by, sum_by, find, take, drop, slice_index_or, codes, Option, Some, None, option_map, is_some}
+use Rattle.std.specs.List.{list_any}
 use Rattle.std.specs.Option.{option_map_or}
 use Rattle.std.specs.Str.{bytes_eq}
 use Rattle.uuid.specs.Text.{parsed}
@@ -11,7 +11,6 @@ use Rattle.ds_base.specs.declared.geometry.GeomField.{GeomField}
 use Rattle.ds_base.specs.declared.geometry.GeomField.TheVariants as fields
 use Rattle.ds_base.specs.Geometry.{most_of}
 use Rattle.ds_layout.specs.Places.{total_of}
-use Rattle.ds_tree.specs.Variables.{is_lower_or_digit}
 use Rattle.ds_tree.specs.Lines.{Words, words_of, is_run, is_word, is_comment, kept, is_number, number_of, is_number_in}
 use Rattle.ds_tree.specs.Grammar.{most_hosts, most_directives, most_steps, most_turns, most_ticks, is_label, is_reserved}
 use Rattle.ds_script.specs.declared.faults.LineFault.{LineFault}
@@ -242,8 +241,8 @@ is_armed host behind =
 abbrev pub cause_of : List Words → Words → List (List ℕ) → Option LineFault
 cause_of before ws behind =
     option_map_or (λ why. Some why)
-        (line_fault before ws)
-        (if is_arming_line ws && not (is_armed (word_at ws 0) behind) then Some faults.Arm else None)
+    (line_fault before ws)
+    (if is_arming_line ws && not (is_armed (word_at ws 0) behind) then Some faults.Arm else None)
 
 -- The limits.
 

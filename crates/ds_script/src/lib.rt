@@ -2,5 +2,6 @@
 #![tactic(auto)]
 
 mod faults;
+mod lines;
 
 pub use faults::{LineFault, ScriptFault, What};
