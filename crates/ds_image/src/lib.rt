@@ -1,0 +1,2 @@
+//! Logical images of a volume: the metadata with the pending pairs of all journals laid over it, and the tree for which an image stands.
+#![tactic(auto)]
