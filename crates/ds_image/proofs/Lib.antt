@@ -1,0 +1,4 @@
+pub mod Decoded
+pub mod Readings
+pub mod Standing
+pub mod LaidOver

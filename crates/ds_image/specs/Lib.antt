@@ -1,1 +1,11 @@
+pub mod BadSectors
+pub mod Guards
+pub mod Logical
+pub mod Looks
+pub mod Metadata
+pub mod Objects
 pub mod Owns
+pub mod Parts
+pub mod Pending
+pub mod Readings
+pub mod Sound
