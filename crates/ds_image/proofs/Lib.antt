@@ -1,3 +1,4 @@
+pub mod BadSectors
 pub mod Decoded
 pub mod Readings
 pub mod Standing

@@ -1,2 +1,8 @@
 //! Logical images of a volume: the metadata with the pending pairs of all journals laid over it, and the tree for which an image stands.
 #![tactic(auto)]
+
+mod bad_sectors;
+mod images;
+mod reads;
+
+pub use images::{Image, ImageFault};
