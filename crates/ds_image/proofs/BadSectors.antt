@@ -1,5 +1,5 @@
 -- Which sectors are bad.
-use Rattle.std.proofs.Common.{◌≡◌, ℕ, ◌+◌, ◌*◌, ◌<◌, ◌≤◌, ◌↔◌, inl, inr, nat_lt, Bool, true, false, not, List, slice_get, Option, Some, None, IsTrue, is_some, refl, sym, arith}
+use Rattle.std.proofs.Common.{◌≡◌, ℕ, ◌<◌, ◌↔◌, inl, inr, nat_lt, Bool, true, false, not, List, slice_get, Option, Some, None, IsTrue, is_some, refl, sym, arith}
 use Rattle.std.proofs.lemmas.Bool.{false≢true}
 use Rattle.std.proofs.lemmas.Bool.Decides.{nat_tests}
 use Rattle.ds_base.specs.Decoding.{IsDecoded}
@@ -40,12 +40,12 @@ bad_index g sectors number r slot txn count x none read is committed index e = (
     no_index = (no_value x none (IsIndexOf g sectors number slot.generation txn count) e index).0 is_none;
   },
   λ bad. (no_value x none (IsIndexOf g sectors number slot.generation txn count) e index).1 (λ v good.
-  let read_again : r ≡ Some bad.slot = (read bad.slot).1 bad.spelled in
-  let same_slot : bad.slot ≡ slot = cc in
-  let bad_journal : bad.slot.journal ≡ Committed bad.txn bad.count = bad.committed in
-  let same_txn : bad.txn ≡ txn = cc in
-  let same_count : bad.count ≡ count = cc in
-  bad.no_index v (rw (same_slot, same_txn, same_count) good)),
+      let read_again : r ≡ Some bad.slot = (read bad.slot).1 bad.spelled in
+      let same_slot : bad.slot ≡ slot = cc in
+      let bad_journal : bad.slot.journal ≡ Committed bad.txn bad.count = bad.committed in
+      let same_txn : bad.txn ≡ txn = cc in
+      let same_count : bad.count ≡ count = cc in
+      bad.no_index v (rw (same_slot, same_txn, same_count) good)),
 )
 
 cluster_within : (g : Geom) (kind : Kind) (cluster : ℕ) → cluster < clusters_of g kind → cluster_at g kind cluster < blocks_at g

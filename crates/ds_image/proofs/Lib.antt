@@ -1,5 +1,6 @@
 pub mod BadSectors
 pub mod Decoded
+pub mod Listed
 pub mod Readings
 pub mod Sizes
 pub mod Standing

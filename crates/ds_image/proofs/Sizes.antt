@@ -1,5 +1,5 @@
 -- A file has as many blocks as its body counts.
-use Rattle.std.proofs.Common.{◌≡◌, ℕ, zero, suc, ◌+◌, ◌*◌, ◌/◌, ◌<◌, ◌≤◌, ⊎_elim, Bool, true, false, nat_le, if◌then◌else◌, List, [], ◌∷◌, ◌++◌, length, take, map, get_or, slice_get, Option, Some, None, IsSome, is_some, refl, sym, ap, subst, ◌∙◌, length-append, length-take-le, arith}
+use Rattle.std.proofs.Common.{◌≡◌, ℕ, suc, ◌+◌, ◌*◌, ◌/◌, ◌<◌, ◌≤◌, ⊎_elim, Bool, true, false, nat_le, if◌then◌else◌, List, [], ◌∷◌, length, take, slice_get, Option, Some, None, IsSome, refl, sym, ap, subst, ◌∙◌, length-append, length-take-le, arith}
 use Rattle.std.proofs.lemmas.Bool.{false≢true, cases_lt}
 use Rattle.std.proofs.lemmas.Bool.Decides.{nat_tests}
 use Rattle.std.proofs.lemmas.List.{get_or-map, get_or_past}
@@ -34,7 +34,7 @@ ptr_length g look p n (Some b) reads e some =
     ((reads.ptrs.each n (omega (arith, part_within p.ptrs n b e, reads.ptrs.len)) b).0 e).0.count
 
 -- lists of one length, one after another
-length-flat_map_each : (f : ℕ → List ℕ) (width : ℕ) (ns : List ℕ) → ((i n : ℕ) → slice_get ns i ≡ Some n → length (f n) ≡ width) → length (flat_map f ns) ≡ width * length ns
+pub length-flat_map_each : {X A : Type 0} (f : X → List A) (width : ℕ) (ns : List X) → ((i : ℕ) (n : X) → slice_get ns i ≡ Some n → length (f n) ≡ width) → length (flat_map f ns) ≡ width * length ns
 length-flat_map_each f width [] each = omega arith
 length-flat_map_each f width (n ∷ ns) each =
     length-append (f n) (flat_map f ns) ∙ omega (arith, each 0 n refl, length-flat_map_each f width ns (λ i m e. each (suc i) m e))

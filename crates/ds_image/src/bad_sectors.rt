@@ -62,7 +62,13 @@ fn has_bad_index(geom: &Geom, lun: &MemLun, number: SlotNo) -> bool
     };
     match slot.journal {
         Journal::Idle => false,
-        Journal::Committed { txn, count } => index_of(geom, lun, number, slot.generation, txn, count)
-            .is_none(),
+        Journal::Committed { txn, count } => index_of(
+            geom,
+            lun,
+            number,
+            slot.generation,
+            txn,
+            count,
+        ).is_none(),
     }
 }

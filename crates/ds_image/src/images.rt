@@ -70,5 +70,8 @@ impl Image {
 pub(crate) fn is_metadata(place: &Place) -> bool
     ensures { result ≡ is_metadata place.now }
 {
-    matches!(place, Place::Body(_) | Place::Bitmap { .. } | Place::SubBlock(_) | Place::PtrBlock(_))
+    matches!(
+        place,
+        Place::Body(_) | Place::Bitmap { .. } | Place::SubBlock(_) | Place::PtrBlock(_)
+    )
 }
