@@ -1,6 +1,8 @@
 pub mod BadSectors
 pub mod Decoded
+pub mod Laying
 pub mod Listed
+pub mod OneLogical
 pub mod Readings
 pub mod Sizes
 pub mod Standing

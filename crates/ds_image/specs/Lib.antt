@@ -1,6 +1,8 @@
 pub mod BadSectors
+pub mod Faults
 pub mod Guards
 pub mod ImageValues
+pub mod Laying
 pub mod Logical
 pub mod Looks
 pub mod Metadata

@@ -3,6 +3,8 @@
 
 mod bad_sectors;
 mod images;
+mod logical;
 mod reads;
 
 pub use images::{Image, ImageFault};
+pub use logical::overlay;
