@@ -1,5 +1,6 @@
 pub mod BadSectors
 pub mod Decoded
+pub mod Guarding
 pub mod Laying
 pub mod Listed
 pub mod OneLogical

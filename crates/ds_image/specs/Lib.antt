@@ -3,6 +3,7 @@ pub mod Faults
 pub mod Guards
 pub mod ImageValues
 pub mod Laying
+pub mod Listers
 pub mod Logical
 pub mod Looks
 pub mod Metadata
