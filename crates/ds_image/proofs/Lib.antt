@@ -5,6 +5,7 @@ pub mod Laying
 pub mod Listed
 pub mod OneLogical
 pub mod Readings
+pub mod Seeing
 pub mod Sizes
 pub mod Standing
 pub mod LaidOver

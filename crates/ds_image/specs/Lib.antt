@@ -12,4 +12,5 @@ pub mod Owns
 pub mod Parts
 pub mod Pending
 pub mod Readings
+pub mod SeenValues
 pub mod Sound

@@ -6,7 +6,9 @@ mod guards;
 mod images;
 mod logical;
 mod reads;
+mod seen;
 
 pub use guards::guard;
 pub use images::{Image, ImageFault};
 pub use logical::overlay;
+pub use seen::Seen;
