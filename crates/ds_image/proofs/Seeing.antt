@@ -3,10 +3,15 @@ use Rattle.std.proofs.Common.{◌≡◌, ℕ, ◌<◌, ◌==◌, Bool, true, fal
 use Rattle.std.proofs.lemmas.List.{length_push}
 use Rattle.std.proofs.lemmas.Option.{same_Some}
 use Rattle.std.specs.Option.{option_or}
+use Rattle.ds_base.specs.Geometry.{IsGeom}
+use Rattle.ds_base.specs.declared.geometry.Geom.{Geom}
 use Rattle.ds_base.specs.declared.sectors.Sector.{Sector}
 use Rattle.ds_image.specs.Looks.{AreBlocks, IsBlock}
 use Rattle.ds_image.specs.Pending.{Pair}
-use Rattle.ds_image.specs.SeenValues.{SeenValue, sector_in, with_sector, IsSeen}
+use Rattle.ds_image.specs.Parts.{Parts}
+use Rattle.ds_image.specs.Readings.{Reads}
+use Rattle.ds_image.specs.SeenValues.{SeenValue, look_of, sector_in, with_sector, IsSeen}
+use Rattle.ds_image.proofs.Readings.{parts_there}
 
 choice : {X : Type 0} (test : Bool) (x : X) (rest others : Option X) → (if test then Some x else option_or rest others) ≡ option_or (if test then Some x else rest) others
 choice true x rest others = refl
@@ -41,3 +46,7 @@ seen_sector seen at s is room block = record {
   few_sectors = omega (arith, length_push seen.sectors (at, s));
   blocks = blocks_seen seen.sectors at s is.blocks block;
 }
+
+-- what a call has seen spells parts
+pub seen_read : (g : Geom) (seen : SeenValue) → IsGeom g → IsSeen seen → (p : Parts) × Reads g (look_of seen) p
+seen_read g seen is_geom is = parts_there g (look_of seen) is_geom is.blocks

@@ -1,3 +1,4 @@
+pub mod Asking
 pub mod BadSectors
 pub mod Faults
 pub mod Guards
@@ -11,6 +12,7 @@ pub mod Objects
 pub mod Owns
 pub mod Parts
 pub mod Pending
+pub mod Planning
 pub mod Readings
 pub mod SeenValues
 pub mod Sound
