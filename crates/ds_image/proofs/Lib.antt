@@ -1,0 +1,11 @@
+pub mod BadSectors
+pub mod Decoded
+pub mod Guarding
+pub mod Laying
+pub mod Listed
+pub mod OneLogical
+pub mod Readings
+pub mod Seeing
+pub mod Sizes
+pub mod Standing
+pub mod LaidOver

@@ -1,0 +1,20 @@
+//! Logical images of a volume: the metadata with the pending pairs of all journals laid over it, and the tree for which an image stands.
+#![tactic(auto)]
+
+mod asks;
+mod bad_sectors;
+mod guards;
+mod images;
+mod logical;
+#[cfg(test)]
+mod logical_tests;
+mod plans;
+mod reads;
+mod seen;
+
+pub use asks::Ask;
+pub use guards::guard;
+pub use images::{Image, ImageFault};
+pub use logical::overlay;
+pub use plans::Plan;
+pub use seen::Seen;
