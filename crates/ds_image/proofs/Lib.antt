@@ -1,0 +1,4 @@
+pub mod Marking
+pub mod OwnedCounts
+pub mod Owning
+pub mod Places

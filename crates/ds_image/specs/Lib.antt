@@ -1,1 +1,5 @@
+pub mod NameCounts
+pub mod Owned
 pub mod Owns
+pub mod Parents
+pub mod Users
