@@ -1,3 +1,4 @@
+pub mod MarkedLists
 pub mod Marking
 pub mod OwnedCounts
 pub mod Owning
