@@ -1,5 +1,9 @@
+pub mod CountedNames
 pub mod MarkedLists
 pub mod Marking
+pub mod NotedUsers
 pub mod OwnedCounts
 pub mod Owning
 pub mod Places
+pub mod RowsOfUsers
+pub mod WalkingParents
