@@ -5,5 +5,6 @@ pub mod NotedUsers
 pub mod OwnedCounts
 pub mod Owning
 pub mod Places
+pub mod ReachedParents
 pub mod RowsOfUsers
 pub mod WalkingParents

@@ -4,4 +4,5 @@ pub mod Owned
 pub mod Owns
 pub mod ParentWalks
 pub mod Parents
+pub mod TreeParents
 pub mod Users

@@ -52,6 +52,7 @@ impl NameCounts {
     pub fn note(&mut self, object: u32)
         requires { object < length self.old }
         ensures noted { self.new ≡ slice_set self.old object (risen (slice_index self.old object)) }
+        ensures count { length self.new ≡ length self.old }
         ensures counts { (named : List ℕ) → length named < 2 ^ 64 - 1 → CountsNames self.old named
             → CountsNames self.new (named ++ object ∷ []) }
     {
@@ -69,5 +70,25 @@ impl NameCounts {
             None => 0,
             Some(count) => *count,
         }
+    }
+}
+
+#[cfg(test)]
+mod tests {
+    use super::*;
+    use std::test::Fail;
+
+    #[test]
+    fn counts_each_name(rt: HostRuntime) -> Result<(), Fail> {
+        let mut names = NameCounts::new(rt.alloc(), 3)?;
+        names.note(1);
+        names.note(2);
+        names.note(1);
+        names.note(1);
+        assert_eq!(rt; names.of(0), 0);
+        assert_eq!(rt; names.of(1), 3);
+        assert_eq!(rt; names.of(2), 1);
+        assert_eq!(rt; names.of(3), 0);
+        Ok(())
     }
 }

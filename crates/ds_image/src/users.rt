@@ -93,6 +93,7 @@ impl Users {
     pub fn note(&mut self, item: u32, object: u32)
         requires { item < length self.old }
         ensures noted { self.new ≡ slice_set self.old item (take 2 (users_in self.old item ++ object ∷ [])) }
+        ensures count { length self.new ≡ length self.old }
         ensures knows { (uses : List (ℕ × ℕ)) → KnowsUsers self.old uses → KnowsUsers self.new (uses ++ (item, object) ∷ []) }
     {
         let row = self.rows[item as usize];
@@ -102,7 +103,8 @@ impl Users {
     /// The first user of an item; none of an item past the last.
     pub fn first(&self, item: u32) -> Option<u32>
         ensures exact { result ≡ slice_get (users_in self.now item) 0 }
-        ensures of_uses { (uses : List (ℕ × ℕ)) → KnowsUsers self.now uses → item < length self.now → result ≡ slice_get (users uses item) 0 }
+        ensures of_uses { (uses : List (ℕ × ℕ)) → KnowsUsers self.now uses → item < length self.now
+            → result ≡ slice_get (users uses item) 0 }
     {
         self.row(item).first()
     }
@@ -110,7 +112,8 @@ impl Users {
     /// The second user of an item; none of an item past the last.
     pub fn second(&self, item: u32) -> Option<u32>
         ensures exact { result ≡ slice_get (users_in self.now item) 1 }
-        ensures of_uses { (uses : List (ℕ × ℕ)) → KnowsUsers self.now uses → item < length self.now → result ≡ slice_get (users uses item) 1 }
+        ensures of_uses { (uses : List (ℕ × ℕ)) → KnowsUsers self.now uses → item < length self.now
+            → result ≡ slice_get (users uses item) 1 }
     {
         self.row(item).second()
     }
@@ -139,5 +142,29 @@ impl Users {
             None => FirstUsers::Unused,
             Some(row) => *row,
         }
+    }
+}
+
+#[cfg(test)]
+mod tests {
+    use super::*;
+    use std::test::Fail;
+
+    #[test]
+    fn keeps_the_first_two_users(rt: HostRuntime) -> Result<(), Fail> {
+        let mut table = Users::new(rt.alloc(), 3)?;
+        table.note(2, 4);
+        table.note(0, 4);
+        table.note(2, 4);
+        table.note(2, 9);
+        assert_eq!(rt; table.first(0), Some(4));
+        assert_eq!(rt; table.second(0), None);
+        assert_eq!(rt; table.first(1), None);
+        assert_eq!(rt; table.first(2), Some(4));
+        assert_eq!(rt; table.second(2), Some(4));
+        assert_eq!(rt; table.first(3), None);
+        let firsts = table.firsts(rt.alloc())?;
+        assert_eq!(rt; firsts.as_slice(), [Some(4), None, Some(4)].as_slice());
+        Ok(())
     }
 }
