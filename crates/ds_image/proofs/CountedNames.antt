@@ -38,7 +38,8 @@ counts-more table object there named few counts = λ n within.
     ]
 
 -- a count that was read is the table's
-pub count-read : (counts : List ℕ) (object count : ℕ) (table : List ℕ) → counts ≡ table → object < length table → count ≡ get_or counts object count
+pub count-read : (counts : List ℕ) (object count : ℕ) (table : List ℕ) → counts ≡ table → object < length table
+    → count ≡ get_or counts object count
     → count ≡ slice_index table object
 count-read counts object count table is within read =
     let there : object < length counts = omega (arith, within, ap (length {A = ℕ}) is) in

@@ -4,6 +4,7 @@ pub mod Marking
 pub mod NotedUsers
 pub mod OwnedCounts
 pub mod Owning
+pub mod OwningUsers
 pub mod Places
 pub mod ReachedParents
 pub mod RowsOfUsers

@@ -24,7 +24,8 @@ pub adds-one : (bits : List Bool) (y : ℕ) → y < length bits → AddsMarks bi
 adds-one bits y within = record {
   count = length-set bits y true;
   marks = λ x. elim (cases_eq x y) [
-    | inl same ↦ (λ _. inr (Contains-from_at (y ∷ []) 0 x (ap Some (sym same))), λ _. ap (bit (set bits y true)) same ∙ get_or-set_same bits y true false within)
+    | inl same ↦ (λ _. inr (Contains-from_at (y ∷ []) 0 x (ap Some (sym same))), λ _. ap (bit (set bits y true)) same
+        ∙ get_or-set_same bits y true false within)
     | inr apart ↦ (
       λ marked. inl (sym (get_or-set_other bits y x true false apart) ∙ marked),
       λ either. elim either [
@@ -87,18 +88,21 @@ clears-joined a b c xs ys first second = record {
         let late = (second.marks x).0 marked in
         let early = (first.marks x).0 late.0 in
         (early.0, λ held. elim (Contains-append_cases xs ys x held) [ inl front ↦ early.1 front | inr back ↦ late.1 back ]),
-    λ both. (second.marks x).1 ((first.marks x).1 (both.0, λ held. both.1 (Contains-append_left xs ys x held)), λ held. both.1 (Contains-append_right xs ys x held)),
+    λ both. (second.marks x).1 ((first.marks x).1 (both.0, λ held. both.1 (Contains-append_left xs ys x held)), λ held. both.1
+        (Contains-append_right xs ys x held)),
   );
 }
 
-pub adds-many : (bits : List Bool) (items : List ℕ) → ((i x : ℕ) → slice_get items i ≡ Some x → x < length bits) → AddsMarks bits items (with_marks bits items true)
+pub adds-many : (bits : List Bool) (items : List ℕ) → ((i x : ℕ) → slice_get items i ≡ Some x → x < length bits)
+    → AddsMarks bits items (with_marks bits items true)
 adds-many bits [] within = adds-none bits
 adds-many bits (y ∷ ys) within =
     let first = adds-one bits y (within 0 y refl) in
     adds-joined bits (set bits y true) (with_marks (set bits y true) ys true) (y ∷ []) ys first
     (adds-many (set bits y true) ys (λ i x at. omega (arith, within (suc i) x at, first.count)))
 
-pub clears-many : (bits : List Bool) (items : List ℕ) → ((i x : ℕ) → slice_get items i ≡ Some x → x < length bits) → ClearsMarks bits items (with_marks bits items false)
+pub clears-many : (bits : List Bool) (items : List ℕ) → ((i x : ℕ) → slice_get items i ≡ Some x → x < length bits)
+    → ClearsMarks bits items (with_marks bits items false)
 clears-many bits [] within = clears-none bits
 clears-many bits (y ∷ ys) within =
     let first = clears-one bits y (within 0 y refl) in
@@ -123,7 +127,8 @@ can-front bits xs ys can = record {
 }
 
 -- an item that isn't marked afterwards wasn't before, and is none of the list
-pub clear-before : (a b : List Bool) (xs : List ℕ) (x : ℕ) → AddsMarks a xs b → slice_get b x ≡ Some false → (slice_get a x ≡ Some false) × ¬ Contains xs x
+pub clear-before : (a b : List Bool) (xs : List ℕ) (x : ℕ) → AddsMarks a xs b → slice_get b x ≡ Some false
+    → (slice_get a x ≡ Some false) × ¬ Contains xs x
 clear-before a b xs x adds free =
     let within : x < length a = omega (arith, slice_get_within b x false free, adds.count) in
     let unmarked = bit-from_at b x false free in

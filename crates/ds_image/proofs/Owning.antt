@@ -22,7 +22,8 @@ module _ (lists : List (List ℕ)) (o : ℕ) (items : List ℕ) (more : List (Li
   ]
 
   pub at-new : (j x : ℕ) → slice_get items j ≡ Some x → IsAt more o (length (list_of lists o) + j) x
-  at-new j x at = subst (λ l. slice_get l (length (list_of lists o) + j) ≡ Some x) (sym adds.here) (at-append_right (list_of lists o) items j x at)
+  at-new j x at = subst (λ l. slice_get l (length (list_of lists o) + j) ≡ Some x) (sym adds.here)
+      (at-append_right (list_of lists o) items j x at)
 
   pub at-more : (p i x : ℕ) → IsAt more p i x
       → IsAt lists p i x ⊎ ((j : ℕ) × (p ≡ o) × (i ≡ length (list_of lists o) + j) × (slice_get items j ≡ Some x))
@@ -122,7 +123,8 @@ module _ (lists : List (List ℕ)) (o : ℕ) (items : List ℕ) (more : List (Li
 
 -- Which lists have more items
 
-pub adds-list : (lists : List (List ℕ)) (o : ℕ) (items : List ℕ) → o < length lists → AddsItems lists o items (set lists o (list_of lists o ++ items))
+pub adds-list : (lists : List (List ℕ)) (o : ℕ) (items : List ℕ) → o < length lists
+    → AddsItems lists o items (set lists o (list_of lists o ++ items))
 adds-list lists o items within = record {
   here = get_or-set_same lists o (list_of lists o ++ items) [] within;
   elsewhere = λ p apart. get_or-set_other lists o p (list_of lists o ++ items) [] apart;
@@ -140,7 +142,8 @@ adds-last lists items = record {
 }
 
 -- an object that lists some items and then more lists them added to the first
-pub adds-back : (lists : List (List ℕ)) (o : ℕ) (kept items : List ℕ) → o < length lists → list_of lists o ≡ kept ++ items → AddsItems (set lists o kept) o items lists
+pub adds-back : (lists : List (List ℕ)) (o : ℕ) (kept items : List ℕ) → o < length lists → list_of lists o ≡ kept ++ items
+    → AddsItems (set lists o kept) o items lists
 adds-back lists o kept items within is = record {
   here = is ∙ ap (λ l. l ++ items) (sym (get_or-set_same lists o kept [] within));
   elsewhere = λ p apart. sym (get_or-set_other lists o p kept [] apart);
@@ -186,7 +189,8 @@ owns-removed lists bits o within owns = owns-given_up lists bits o [] (list_of l
 -- What lists determine
 
 -- ownership speaks of each object's list alone
-pub owns-alike : (lists more : List (List ℕ)) (bits : List Bool) → ((o : ℕ) → list_of more o ≡ list_of lists o) → Owns lists bits → Owns more bits
+pub owns-alike : (lists more : List (List ℕ)) (bits : List Bool) → ((o : ℕ) → list_of more o ≡ list_of lists o) → Owns lists bits
+    → Owns more bits
 owns-alike lists more bits same owns = record {
   once = λ o i p j x one two. owns.once o i p j x (back o i x one) (back p j x two);
   marked = λ o i x at. owns.marked o i x (back o i x at);

@@ -8,7 +8,8 @@ use Rattle.ds_image.specs.KnownUsers.{known_users}
 use Rattle.ds_image.specs.Users.{users_in}
 
 -- a row that was read has the users that the table tells
-pub row-read : (rows : List FirstUsers) (item : ℕ) (row : FirstUsers) (table : List (List ℕ)) → map known_users rows ≡ table → item < length table
+pub row-read : (rows : List FirstUsers) (item : ℕ) (row : FirstUsers) (table : List (List ℕ)) → map known_users rows ≡ table
+    → item < length table
     → row ≡ get_or rows item row → known_users row ≡ users_in table item
 row-read rows item row table is within read =
     let there : item < length rows = omega (arith, within, ap (length {A = List ℕ}) is, length-map rows known_users) in
@@ -24,6 +25,7 @@ nothing-used (suc n) zero = refl
 nothing-used (suc n) (suc item) = nothing-used n item
 
 -- the first users of rows are those that the table tells
-pub firsts-of-rows : (rows : List FirstUsers) → map (λ row. slice_get (known_users row) 0) rows ≡ map (λ (users : List ℕ). slice_get users 0) (map known_users rows)
+pub firsts-of-rows : (rows : List FirstUsers)
+    → map (λ row. slice_get (known_users row) 0) rows ≡ map (λ (users : List ℕ). slice_get users 0) (map known_users rows)
 firsts-of-rows [] = refl
 firsts-of-rows (row ∷ rows) = ap (λ t. slice_get (known_users row) 0 ∷ t) (firsts-of-rows rows)

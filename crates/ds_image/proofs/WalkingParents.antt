@@ -10,11 +10,13 @@ use Rattle.ds_image.specs.ParentWalks.{walk_to, led, AreSettled}
 
 -- The root has no parent to follow, and another object leads to the root exactly where its parent does
 
-lead-cases : (parents : List (Option ℕ)) (o : ℕ) → LeadsToRoot parents o → (o ≡ 0) ⊎ ((p : ℕ) × (parent_of parents o ≡ Some p) × LeadsToRoot parents p)
+lead-cases : (parents : List (Option ℕ)) (o : ℕ) → LeadsToRoot parents o → (o ≡ 0)
+    ⊎ ((p : ℕ) × (parent_of parents o ≡ Some p) × LeadsToRoot parents p)
 lead-cases parents _ AtRoot = inl refl
 lead-cases parents _ (ByParent o p is leads) = inr (p, is, leads)
 
-pub leads-as_parent : (parents : List (Option ℕ)) (o p : ℕ) → o ≢ 0 → parent_of parents o ≡ Some p → LeadsToRoot parents o ↔ LeadsToRoot parents p
+pub leads-as_parent : (parents : List (Option ℕ)) (o p : ℕ) → o ≢ 0 → parent_of parents o ≡ Some p
+    → LeadsToRoot parents o ↔ LeadsToRoot parents p
 leads-as_parent parents o p apart is = (
   λ leads. elim (lead-cases parents o leads) [
     | inl root ↦ absurd (apart root)
@@ -24,7 +26,8 @@ leads-as_parent parents o p apart is = (
 )
 
 -- an object whose parent, if it has one, is past the last object doesn't lead to the root
-pub leads-not : (parents : List (Option ℕ)) (o : ℕ) → o ≢ 0 → 0 < length parents → ((p : ℕ) → parent_of parents o ≡ Some p → length parents ≤ p) → ¬ LeadsToRoot parents o
+pub leads-not : (parents : List (Option ℕ)) (o : ℕ) → o ≢ 0 → 0 < length parents
+    → ((p : ℕ) → parent_of parents o ≡ Some p → length parents ≤ p) → ¬ LeadsToRoot parents o
 leads-not parents o apart some past leads = elim (lead-cases parents o leads) [
   | inl root ↦ apart root
   | inr up ↦ elim (lead-cases parents up.0 up.2) [
@@ -46,14 +49,16 @@ module _ (parents : List (Option ℕ)) (leads : List Bool) where
     pub root : walk_to seen 0 ≡ Some 0
     pub later : 0 < length leads
     pub within : object < length parents
-    pub known : (o walk : ℕ) → walk_to seen o ≡ Some walk → walk ≢ length leads → (walk < length leads) × ((led leads walk ≡ true) ↔ LeadsToRoot parents o)
+    pub known : (o walk : ℕ) → walk_to seen o ≡ Some walk → walk ≢ length leads
+        → (walk < length leads) × ((led leads walk ≡ true) ↔ LeadsToRoot parents o)
     pub path : (o : ℕ) → walk_to seen o ≡ Some (length leads) → LeadsToRoot parents o ↔ LeadsToRoot parents object
     pub covered : (o : ℕ) → o < length leads → (walk : ℕ) × (walk_to seen o ≡ Some walk)
 
   -- a walk: each parent on its way is on it or is the object at which it stands
   pub record IsWalk (seen : List (Option ℕ)) (object : ℕ) : Type 0 where
     pub is_path : IsPath seen object
-    pub closed : (o p : ℕ) → walk_to seen o ≡ Some (length leads) → parent_of parents o ≡ Some p → (p ≡ object) ⊎ (walk_to seen p ≡ Some (length leads))
+    pub closed : (o p : ℕ) → walk_to seen o ≡ Some (length leads) → parent_of parents o ≡ Some p → (p ≡ object)
+        ⊎ (walk_to seen p ≡ Some (length leads))
     pub begun : (object ≡ length leads) ⊎ (walk_to seen (length leads) ≡ Some (length leads))
 
   -- Its beginning
@@ -105,7 +110,8 @@ module _ (parents : List (Option ℕ)) (leads : List Bool) where
       later = is.later;
       within = is.within;
       known = λ o walk at apart. elim (cases_eq o object) [
-        | inl same ↦ absurd (apart (same_Some walk (length leads) (sym at ∙ ap (walk_to (set seen object (Some (length leads)))) same ∙ at-object is)))
+        | inl same ↦ absurd (apart (same_Some walk (length leads)
+            (sym at ∙ ap (walk_to (set seen object (Some (length leads)))) same ∙ at-object is)))
         | inr other ↦ is.known o walk (sym (at-other o other) ∙ at) apart
       ];
       path = λ o at. elim (cases_eq o object) [
@@ -148,7 +154,8 @@ module _ (parents : List (Option ℕ)) (leads : List Bool) where
 
   -- Its end
 
-  pub path-settles : (seen : List (Option ℕ)) (object : ℕ) (result : Bool) → IsPath seen object → (walk : ℕ) → walk_to seen (length leads) ≡ Some walk
+  pub path-settles : (seen : List (Option ℕ)) (object : ℕ) (result : Bool) → IsPath seen object → (walk : ℕ)
+      → walk_to seen (length leads) ≡ Some walk
       → ((result ≡ true) ↔ LeadsToRoot parents object) → AreSettled parents seen (leads ++ result ∷ [])
   path-settles seen object result is start at right = record {
     count = is.count;
@@ -171,11 +178,13 @@ module _ (parents : List (Option ℕ)) (leads : List Bool) where
 
   -- the walk has come to an object that has no parent
   pub walk-stops : (seen : List (Option ℕ)) (object : ℕ) → walk_to seen object ≡ None → IsWalk seen object
-      → ((p : ℕ) → parent_of parents object ≡ Some p → length parents ≤ p) → AreSettled parents (set seen object (Some (length leads))) (leads ++ false ∷ [])
+      → ((p : ℕ) → parent_of parents object ≡ Some p → length parents ≤ p)
+          → AreSettled parents (set seen object (Some (length leads))) (leads ++ false ∷ [])
   walk-stops seen object unseen is past =
       let some : 0 < length parents = omega (arith, is.is_path.within) in
       let not = leads-not parents object (not-root seen object unseen is.is_path) some past in
-      path-settles (set seen object (Some (length leads))) object false (path-marked seen object unseen is.is_path) (length leads) (start-marked seen object unseen is)
+      path-settles (set seen object (Some (length leads))) object false (path-marked seen object unseen is.is_path) (length leads)
+          (start-marked seen object unseen is)
       (λ no. absurd (false≢true no), λ l. absurd (not l))
 
   -- the walk has come to an object that was seen before: by an earlier walk, or by itself
@@ -190,26 +199,30 @@ module _ (parents : List (Option ℕ)) (leads : List Bool) where
       ]
 
       no_root : ¬ (walk_to seen 0 ≡ Some (length leads))
-      no_root root = let same : 0 ≡ length leads = same_Some 0 (length leads) (sym is.is_path.root ∙ root) in omega (arith, same, is.is_path.later)
+      no_root root =
+          let same : 0 ≡ length leads = same_Some 0 (length leads) (sym is.is_path.root ∙ root) in
+          omega (arith, same, is.is_path.later)
+
+      stays : walk_to seen object ≡ Some (length leads) → (o p : ℕ) → walk_to seen o ≡ Some (length leads) → parent_of parents o ≡ Some p
+          → walk_to seen p ≡ Some (length leads)
+      stays on_it o p o_at of = elim (is.closed o p o_at of) [ inl here ↦ ap (walk_to seen) here ∙ on_it | inr there ↦ there ]
 
       right : (led leads walk ≡ true) ↔ LeadsToRoot parents object
       right = elim (cases_eq walk (length leads)) [
         | inr apart ↦ (is.is_path.known object walk at apart).1
         | inl same ↦
             let on_it : walk_to seen object ≡ Some (length leads) = at ∙ ap Some same in
-            let all_on_it = λ (o p : ℕ) (o_at : walk_to seen o ≡ Some (length leads)) (of : parent_of parents o ≡ Some p). elim (is.closed o p o_at of) as (λ _. walk_to seen p ≡ Some (length leads)) [
-              | inl here ↦ ap (walk_to seen) here ∙ on_it
-              | inr there ↦ there
-            ] in (
+            (
               λ yes. absurd (false≢true (sym (get_or_past leads walk false (omega (arith, same))) ∙ yes)),
-              λ l. absurd (closed-not parents (λ o. walk_to seen o ≡ Some (length leads)) no_root all_on_it object l on_it),
+              λ l. absurd (closed-not parents (λ o. walk_to seen o ≡ Some (length leads)) no_root (stays on_it) object l on_it),
             )
       ]
 
 -- One walk after another
 
 -- an object that was seen before needs no walk
-pub settled-passes : (parents seen : List (Option ℕ)) (leads : List Bool) (walk : ℕ) → AreSettled parents seen leads → walk_to seen (length leads) ≡ Some walk
+pub settled-passes : (parents seen : List (Option ℕ)) (leads : List Bool) (walk : ℕ) → AreSettled parents seen leads
+    → walk_to seen (length leads) ≡ Some walk
     → AreSettled parents seen (leads ++ false ∷ [])
 settled-passes parents seen leads start settled at = record {
   count = settled.count;

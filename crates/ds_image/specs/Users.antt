@@ -1,7 +1,7 @@
 -- Which objects use an item, from a list of all uses.
-use Rattle.std.specs.Prelude.{◌≡◌, ℕ, ◌<◌, ◌==◌, List, [], length, take, map, filter, slice_index_or}
+use Rattle.std.specs.Prelude.{◌≡◌, ◌↔◌, ◌≤◌, ℕ, ◌<◌, ◌==◌, Bool, true, List, [], length, take, map, filter, slice_index_or}
 use Rattle.std.specs.List.{flat_map, range_with_len}
-use Rattle.ds_image.specs.Owns.{list_of}
+use Rattle.ds_image.specs.Owns.{list_of, bit}
 
 -- the objects that use an item, in the order of the uses; a use is an item and an object
 abbrev pub users : List (ℕ × ℕ) → ℕ → List ℕ
@@ -22,3 +22,8 @@ users_in table item = slice_index_or table item []
 -- the table has the first two users of each of its items
 abbrev pub KnowsUsers : List (List ℕ) → List (ℕ × ℕ) → Type 0
 KnowsUsers table uses = (item : ℕ) → item < length table → users_in table item ≡ take 2 (users uses item)
+
+-- no item has two users, and just those that have one are marked
+pub record AreUsedOnce (lists : List (List ℕ)) (bits : List Bool) : Type 0 where
+  pub few : (x : ℕ) → length (users (uses_of lists) x) ≤ 1
+  pub used : (x : ℕ) → (bit bits x ≡ true) ↔ (0 < length (users (uses_of lists) x))
