@@ -9,3 +9,14 @@ pub mod Seeing
 pub mod Sizes
 pub mod Standing
 pub mod LaidOver
+pub mod CountedNames
+pub mod MarkedLists
+pub mod Marking
+pub mod NotedUsers
+pub mod OwnedCounts
+pub mod Owning
+pub mod OwningUsers
+pub mod Places
+pub mod ReachedParents
+pub mod RowsOfUsers
+pub mod WalkingParents

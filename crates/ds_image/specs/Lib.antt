@@ -16,3 +16,10 @@ pub mod Planning
 pub mod Readings
 pub mod SeenValues
 pub mod Sound
+pub mod KnownUsers
+pub mod NameCounts
+pub mod Owned
+pub mod ParentWalks
+pub mod Parents
+pub mod TreeParents
+pub mod Users

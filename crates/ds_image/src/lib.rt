@@ -8,13 +8,21 @@ mod images;
 mod logical;
 #[cfg(test)]
 mod logical_tests;
+mod marks;
+mod name_counts;
+mod parents;
 mod plans;
 mod reads;
 mod seen;
+mod users;
 
 pub use asks::Ask;
 pub use guards::guard;
 pub use images::{Image, ImageFault};
 pub use logical::overlay;
+pub use marks::Marks;
+pub use name_counts::NameCounts;
+pub use parents::reached;
 pub use plans::Plan;
 pub use seen::Seen;
+pub use users::Users;
