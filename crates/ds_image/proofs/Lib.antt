@@ -1,5 +1,9 @@
 pub mod BadSectors
 pub mod Decoded
+pub mod FormattedUpTo
+pub mod FreshLists
+pub mod FreshParts
+pub mod FreshVolume
 pub mod Listed
 pub mod Readings
 pub mod Sizes

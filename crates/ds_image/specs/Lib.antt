@@ -1,4 +1,5 @@
 pub mod BadSectors
+pub mod Formatted
 pub mod Guards
 pub mod ImageValues
 pub mod Logical

@@ -2,7 +2,9 @@
 #![tactic(auto)]
 
 mod bad_sectors;
+mod formatting;
 mod images;
 mod reads;
 
+pub use formatting::format;
 pub use images::{Image, ImageFault};
