@@ -1,5 +1,5 @@
 -- The parts of a formatted volume agree with one another, and spell the tree that has the root alone.
-use Rattle.std.proofs.Common.{◌≡◌, ℕ, zero, suc, ◌+◌, ◌-◌, ◌*◌, ◌^◌, ◌<◌, ◌≤◌, Bool, true, false, List, [], ◌∷◌, map, length, replicate, slice_get, slice_index, Option, Some, None, IsSome, refl, sym, ap, subst, ◌∙◌, arith}
+use Rattle.std.proofs.Common.{◌≡◌, ℕ, zero, suc, ◌*◌, ◌≤◌, Bool, false, List, [], map, replicate, slice_get, Option, Some, None, refl, sym, ap, subst, ◌∙◌, arith}
 use Rattle.std.proofs.Math.ListN as lists
 use Rattle.std.proofs.Math.Nat.{one-le-mul}
 use Rattle.std.specs.Prelude.{bytes_eq}
@@ -17,9 +17,9 @@ use Rattle.ds_ptr.specs.declared.ptr_block.PtrBlock.{PtrBlock}
 use Rattle.ds_tree.specs.Nodes.{FileTree, Object, unborn, fresh_tree}
 use Rattle.ds_image.specs.Formatted.{fresh_body, fresh_bits}
 use Rattle.ds_image.specs.Objects.{is_used, subs_of, ptrs_of, blocks_of, tail_of, used_rooms, object_of, tree_of}
-use Rattle.ds_image.specs.Owns.{Owns, list_of, bit, IsAt}
+use Rattle.ds_image.specs.Owns.{list_of, bit, IsAt}
 use Rattle.ds_image.specs.Parts.{Parts, part_at, AllSpelled, maps_of, bits_in}
-use Rattle.ds_image.specs.Sound.{sub_lists, ptr_lists, block_lists, rooms_used_by, IsNamedRight, AreZero, IsSound}
+use Rattle.ds_image.specs.Sound.{sub_lists, ptr_lists, block_lists, rooms_used_by, AreZero, IsSound}
 use Rattle.ds_image.proofs.FreshLists.{made, each_made, all_made, first_and_same, clear_bits_in, first_bit_in, get_or-replicate_same, owns_nothing}
 
 -- the pointer block without addresses

@@ -1,5 +1,5 @@
 -- A formatted volume has one logical image, the sectors in front of its file blocks, and this stands for the tree that has the root alone.
-use Rattle.std.proofs.Common.{◌≡◌, ℕ, zero, suc, ◌+◌, ◌-◌, ◌*◌, ◌^◌, ◌<◌, ◌≤◌, ⊎_elim, inl, inr, Bool, true, false, List, [], ◌∷◌, ◌++◌, map, length, replicate, take, get_or, slice_get, slice_index, slice_index_or, Option, Some, None, refl, sym, ap, subst, ◌∙◌, length-append, arith}
+use Rattle.std.proofs.Common.{◌≡◌, ℕ, zero, suc, ◌^◌, ◌<◌, ◌≤◌, ⊎_elim, true, false, List, [], ◌∷◌, ◌++◌, length, replicate, slice_get, slice_index, slice_index_or, Option, Some, refl, sym, ap, subst, ◌∙◌, arith}
 use Rattle.std.proofs.lemmas.Bool.{cases_lt}
 use Rattle.std.proofs.lemmas.List.{get_or-replicate, get_or-take, length-replicate, length-set, length-take, length-take-le}
 use Rattle.std.proofs.lemmas.Option.{slice_get-get_or, slice_get_within}
@@ -12,36 +12,32 @@ use Rattle.ds_base.specs.declared.sectors.Sector.{Sector}
 use Rattle.ds_base.specs.Geometry.{IsGeom, clusters_of, per_cluster, items_of}
 use Rattle.ds_bitmap.proofs.Bounds.{most_per_cluster}
 use Rattle.ds_bitmap.proofs.Packed.{bits_same}
-use Rattle.ds_bitmap.specs.Bits.{Bitmap, IsBits, bits_bytes}
+use Rattle.ds_bitmap.specs.Bits.{IsBits, bits_bytes}
 use Rattle.ds_bytes.specs.Fields.{zeros, littles, little, padded, AllBelow}
 use Rattle.ds_dir.proofs.Laws.{empty_sub, sub_bytes-empty, IsSubBlock-empty, sub_same}
-use Rattle.ds_dir.specs.SubBlock.{IsSubBlock, sub_bytes}
-use Rattle.ds_dir.specs.declared.sub_block.SubBlock.{SubBlock}
+use Rattle.ds_dir.specs.SubBlock.{sub_bytes}
 use Rattle.ds_fd.proofs.Laws.{body_same}
 use Rattle.ds_fd.specs.Body.{HasWidths, InRanges, IsBody, body_bytes}
-use Rattle.ds_fd.specs.declared.body.Body.{Body}
 use Rattle.ds_layout.proofs.Bounds.{bounds}
-use Rattle.ds_layout.specs.Places.{IsPlace, place_sector, blocks_at, total_of}
+use Rattle.ds_layout.specs.Places.{IsPlace, place_sector, blocks_at}
 use Rattle.ds_layout.specs.declared.places.Place.{Place}
 use Rattle.ds_layout.specs.declared.places.Place.TheVariants as places
 use Rattle.ds_marks.proofs.Slots.{slot_same}
-use Rattle.ds_marks.specs.Slot as slots
 use Rattle.ds_marks.specs.Slot.{IsSlot, slot_bytes}
 use Rattle.ds_marks.specs.declared.slot.Slot.{Slot}
 use Rattle.ds_ptr.proofs.Laws.{ptr_same}
 use Rattle.ds_ptr.specs.PtrBlock.{IsPtrBlock, ptr_bytes}
-use Rattle.ds_ptr.specs.declared.ptr_block.PtrBlock.{PtrBlock}
 use Rattle.ds_tree.proofs.FreshTree.{fresh-is_tree}
 use Rattle.ds_tree.specs.Nodes.{fresh_tree}
 use Rattle.ds_image.specs.Formatted.{fresh_slot, fresh_body, fresh_bits, formatted_at, IsFormatted}
-use Rattle.ds_image.specs.Logical.{laid_over, AreAllPending, IsLogical}
+use Rattle.ds_image.specs.Logical.{laid_over, IsLogical}
 use Rattle.ds_image.specs.Looks.{Look, HasBytes}
 use Rattle.ds_image.specs.Metadata.{is_metadata, front_of}
 use Rattle.ds_image.specs.Parts.{maps_of}
 use Rattle.ds_image.specs.Pending.{Pair, AreOfSlot, ArePending}
 use Rattle.ds_image.specs.Readings.{SpellsSlot, SpellsBody, SpellsBits, SpellsSub, SpellsPtr, IsReading, Reads}
 use Rattle.ds_image.specs.Sound.{StandsFor}
-use Rattle.ds_image.proofs.FreshLists.{made, reading_made, decoded_one, get_or-replicate_same}
+use Rattle.ds_image.proofs.FreshLists.{reading_made, decoded_one, get_or-replicate_same}
 use Rattle.ds_image.proofs.FreshParts.{empty_ptr, fresh_parts, fresh_sound, tree_of-fresh}
 
 -- a free slot in generation 1 is a slot

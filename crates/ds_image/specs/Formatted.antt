@@ -1,5 +1,5 @@
 -- The sectors of a volume that was just formatted.
-use Rattle.std.specs.Prelude.{◌≡◌, ℕ, zero, suc, false, true, List, length, replicate, slice_get, slice_set, Option, Some, None}
+use Rattle.std.specs.Prelude.{◌≡◌, ℕ, zero, suc, false, true, List, length, replicate, slice_get, slice_set, Some, None}
 use Rattle.ds_base.specs.Geometry.{per_cluster}
 use Rattle.ds_base.specs.declared.geometry.Geom.{Geom}
 use Rattle.ds_base.specs.declared.geometry.Kind.{Kind}

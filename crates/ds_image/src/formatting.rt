@@ -22,7 +22,7 @@ use uuid::Uuid;
 pub fn format(alloc: Global, geom: &Geom, volume: Uuid) -> Result<Vec<Sector>, NoMemory>
     requires { IsGeom geom.now }
     ensures formatted { IfOk result (λ sectors. IsFormatted geom.now volume sectors.items) }
-    ensures image { IfOk result (λ sectors. IsLogical geom.now sectors.items (front_of geom.now sectors.items)) }
+    ensures logical { IfOk result (λ sectors. IsLogical geom.now sectors.items (front_of geom.now sectors.items)) }
     ensures stands { IfOk result (λ sectors. (image : List Sector) → IsLogical geom.now sectors.items image
         → StandsFor geom.now image (fresh_tree geom.now)) }
 {
@@ -61,9 +61,10 @@ fn sector_for(geom: &Geom, volume: Uuid, place: &Place) -> Sector
         Place::Header(object) => fresh_header(object).encode(),
         Place::Bitmap { kind, cluster } => fresh_bits(geom, kind, cluster).encode(),
         Place::Body(object) => fresh_body(object).encode(),
-        Place::Journal { .. } | Place::SubBlock(_) | Place::PtrBlock(_) | Place::Block { .. } => {
-            Sector::zero()
-        }
+        Place::Journal { .. } => Sector::zero(),
+        Place::SubBlock(_) => Sector::zero(),
+        Place::PtrBlock(_) => Sector::zero(),
+        Place::Block { .. } => Sector::zero(),
     }
 }
 

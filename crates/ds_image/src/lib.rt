@@ -2,6 +2,8 @@
 #![tactic(auto)]
 
 mod bad_sectors;
+#[cfg(test)]
+mod format_tests;
 mod formatting;
 mod images;
 mod reads;

@@ -1,5 +1,5 @@
 -- A cluster has at least one item, and none is used at first.
-use Rattle.std.proofs.Common.{◌≡◌, ◌<◌, false, replicate, slice_get, length, Some, ap, ◌∙◌, arith}
+use Rattle.std.proofs.Common.{◌<◌, false, replicate, slice_get, Some, ap, ◌∙◌, arith}
 use Rattle.std.proofs.lemmas.List.{get_or-replicate, length-replicate}
 use Rattle.std.proofs.lemmas.Option.{slice_get-get_or}
 use Rattle.ds_base.specs.Geometry.{per_cluster}
