@@ -92,9 +92,10 @@ get_or-replicate_same n i x =
     (λ (past : n ≤ i). get_or_past (replicate n x) i x (omega (arith, length-replicate n x)))
     (cases_lt i n)
 
-none_there : (xs : List ℕ) (i x : ℕ) → xs ≡ [] → ¬ (slice_get xs i ≡ Some x)
-none_there xs i x e h =
-    let none : slice_get xs i ≡ None = ap (λ (ys : List ℕ). slice_get ys i) e in
+-- nothing stands in an empty list
+pub none_there : {X : Type 0} (xs : List X) (i : ℕ) (x : X) → xs ≡ [] → ¬ (slice_get xs i ≡ Some x)
+none_there {X = X} xs i x e h =
+    let none : slice_get xs i ≡ None = ap (λ (ys : List X). slice_get ys i) e in
     absurd cc
 
 -- where nothing is listed and no bit is set, each item is owned as it has to be

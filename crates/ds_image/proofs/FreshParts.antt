@@ -1,5 +1,5 @@
 -- The parts of a formatted volume agree with one another, and spell the tree that has the root alone.
-use Rattle.std.proofs.Common.{◌≡◌, ℕ, zero, suc, ◌*◌, ◌≤◌, Bool, false, List, [], map, replicate, slice_get, Option, Some, None, refl, sym, ap, subst, ◌∙◌, arith}
+use Rattle.std.proofs.Common.{◌≡◌, ℕ, zero, suc, ◌*◌, ◌≤◌, Bool, false, List, [], map, replicate, Option, Some, None, refl, sym, ap, subst, ◌∙◌, arith}
 use Rattle.std.proofs.Math.ListN as lists
 use Rattle.std.proofs.Math.Nat.{one-le-mul}
 use Rattle.std.specs.Prelude.{bytes_eq}
@@ -17,10 +17,10 @@ use Rattle.ds_ptr.specs.declared.ptr_block.PtrBlock.{PtrBlock}
 use Rattle.ds_tree.specs.Nodes.{FileTree, Object, unborn, fresh_tree}
 use Rattle.ds_image.specs.Formatted.{fresh_body, fresh_bits}
 use Rattle.ds_image.specs.Objects.{is_used, subs_of, ptrs_of, blocks_of, tail_of, used_rooms, object_of, tree_of}
-use Rattle.ds_image.specs.Owns.{list_of, bit, IsAt}
+use Rattle.ds_image.specs.Owns.{list_of, bit}
 use Rattle.ds_image.specs.Parts.{Parts, part_at, AllSpelled, maps_of, bits_in}
 use Rattle.ds_image.specs.Sound.{sub_lists, ptr_lists, block_lists, rooms_used_by, AreZero, IsSound}
-use Rattle.ds_image.proofs.FreshLists.{made, each_made, all_made, first_and_same, clear_bits_in, first_bit_in, get_or-replicate_same, owns_nothing}
+use Rattle.ds_image.proofs.FreshLists.{made, each_made, all_made, first_and_same, clear_bits_in, first_bit_in, get_or-replicate_same, none_there, owns_nothing}
 
 -- the pointer block without addresses
 abbrev pub empty_ptr : PtrBlock
@@ -63,11 +63,6 @@ listed_alike list n none some o =
     ap (λ d. lists.get_or (map list (made fresh_body n)) o d) (sym none)
     ∙ lists.get_or-map list (made fresh_body n) o None
     ∙ each_made fresh_body n P none some o
-
-not_listed : (ls : List (List ℕ)) (o i n : ℕ) → list_of ls o ≡ [] → ¬ IsAt ls o i n
-not_listed ls o i n e h =
-    let none : slice_get (list_of ls o) i ≡ None = ap (λ (ys : List ℕ). slice_get ys i) e in
-    absurd cc
 
 no_bit : (f : ℕ → Bitmap) (per n : ℕ) → ((i : ℕ) → (f i).used ≡ replicate per false) → (x : ℕ) → bit (bits_in (made f n)) x ≡ false
 no_bit f per n clear x =
@@ -130,14 +125,12 @@ module _ (g : Geom) (is : IsGeom g) where
   fresh_sound = record {
     bodies = all_made fresh_body (items_of g Fd);
     maps = all_maps;
-    subs = λ o i n at. absurd (not_listed (sub_lists p) o i n (no_sub_listed o) at);
-    ptrs = λ o i n at. absurd (not_listed (ptr_lists p) o i n (no_ptr_listed o) at);
+    subs = λ o i n at. absurd (none_there (list_of (sub_lists p) o) i n (no_sub_listed o) at);
+    ptrs = λ o i n at. absurd (none_there (list_of (ptr_lists p) o) i n (no_ptr_listed o) at);
     names = λ o.
         let P : List Entry → Type 0 = λ es. IsDistinct bytes_eq (map (λ (e : Entry). e.name) es) in
         subst P (sym (no_rooms o)) tt;
-    entries = λ o i e at.
-        let none : slice_get (rooms_used_by p o) i ≡ None = ap (λ (es : List Entry). slice_get es i) (no_rooms o) in
-        absurd cc;
+    entries = λ o i e at. absurd (none_there (rooms_used_by p o) i e (no_rooms o) at);
     tails = no_tail;
     used = used_root;
     sub_owners = owns_nothing (sub_lists p) (bits_in p.sb_maps) no_sub_listed (no_bit (fresh_bits g Sb) (per_cluster g Sb) (clusters_of g Sb) (λ i. refl));

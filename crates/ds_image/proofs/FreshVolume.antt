@@ -133,16 +133,16 @@ module _ (g : Geom) (volume : List ℕ) (sectors : List Sector) (is : IsGeom g) 
   metadata_has : (place : Place) → IsPlace g place → is_metadata place ≡ true → HasBytes front (place_sector g place) (formatted_at g volume place)
   metadata_has place h kept = front_has g sectors (place_sector g place) (formatted_at g volume place) (formatted.each place h) (metadata_within g place h kept)
 
-  body_there : (o : ℕ) → o < items_of g Fd → IsDecoded (Some (fresh_body o)) (SpellsBody g front o)
-  body_there o l =
+  body_spelled : (o : ℕ) → o < items_of g Fd → IsDecoded (Some (fresh_body o)) (SpellsBody g front o)
+  body_spelled o l =
       let few : items_of g Fd ≤ 2048 = (bounds g is).fd_items in
       let body : IsBody (fresh_body o) = record { widths = fresh_body_widths o (omega arith); ranges = fresh_body_ranges o } in
       let has = metadata_has (places.Body o) l refl in
       decoded_one (fresh_body o) (SpellsBody g front o) (fresh_body_object o, body, has)
       (λ w d. body_same w (fresh_body o) d.1 body (same_bytes front (place_sector g (places.Body o)) (body_bytes w) (body_bytes (fresh_body o)) d.2 has))
 
-  map_there : (kind : Kind) (c : ℕ) → c < 256 → c < clusters_of g kind → IsDecoded (Some (fresh_bits g kind c)) (SpellsBits g front kind c)
-  map_there kind c small l =
+  map_spelled : (kind : Kind) (c : ℕ) → c < 256 → c < clusters_of g kind → IsDecoded (Some (fresh_bits g kind c)) (SpellsBits g front kind c)
+  map_spelled kind c small l =
       let bits = fresh_bits_are g kind c in
       let most = most_per_cluster g kind is in
       let has = metadata_has (places.Bitmap kind c) l refl in
@@ -151,32 +151,32 @@ module _ (g : Geom) (volume : List ℕ) (sectors : List Sector) (is : IsGeom g) 
       bits_same w (fresh_bits g kind c) (omega (arith, d.0.same_cluster)) (omega (arith, bits.same_cluster)) (omega (arith, d.0.count)) (omega (arith, bits.count))
       (same_bytes front (place_sector g (places.Bitmap kind c)) (bits_bytes w) (bits_bytes (fresh_bits g kind c)) d.1 has))
 
-  sub_there : (n : ℕ) → n < items_of g Sb → IsDecoded (Some empty_sub) (SpellsSub g front n)
-  sub_there n l =
+  sub_spelled : (n : ℕ) → n < items_of g Sb → IsDecoded (Some empty_sub) (SpellsSub g front n)
+  sub_spelled n l =
       let at : ℕ = place_sector g (places.SubBlock n) in
       let has : HasBytes front at (sub_bytes empty_sub) = subst (HasBytes front at) (sym sub_bytes-empty) (metadata_has (places.SubBlock n) l refl) in
       decoded_one empty_sub (SpellsSub g front n) (IsSubBlock-empty, has)
       (λ w d. sub_same w empty_sub d.0 IsSubBlock-empty (same_bytes front at (sub_bytes w) (sub_bytes empty_sub) d.1 has))
 
-  ptr_there : (n : ℕ) → n < items_of g Pb → IsDecoded (Some empty_ptr) (SpellsPtr g front n)
-  ptr_there n l =
+  ptr_spelled : (n : ℕ) → n < items_of g Pb → IsDecoded (Some empty_ptr) (SpellsPtr g front n)
+  ptr_spelled n l =
       let at : ℕ = place_sector g (places.PtrBlock n) in
       let has : HasBytes front at (ptr_bytes empty_ptr) = subst (HasBytes front at) (sym ptr_bytes-empty) (metadata_has (places.PtrBlock n) l refl) in
       decoded_one empty_ptr (SpellsPtr g front n) (empty_ptr_is, has)
       (λ w d. ptr_same w empty_ptr d.0 empty_ptr_is (same_bytes front at (ptr_bytes w) (ptr_bytes empty_ptr) d.1 has))
 
   maps_read : (kind : Kind) → IsReading (clusters_of g kind) (SpellsBits g front kind) (maps_of (fresh_parts g) kind)
-  maps_read Fd = reading_made (clusters_of g Fd) (SpellsBits g front Fd) (fresh_bits g Fd) (λ c l. map_there Fd c (omega (arith, (bounds g is).fd_clusters)) l)
-  maps_read Sb = reading_made (clusters_of g Sb) (SpellsBits g front Sb) (fresh_bits g Sb) (λ c l. map_there Sb c (omega (arith, (bounds g is).sb_clusters)) l)
-  maps_read Pb = reading_made (clusters_of g Pb) (SpellsBits g front Pb) (fresh_bits g Pb) (λ c l. map_there Pb c (omega (arith, (bounds g is).pb_clusters)) l)
-  maps_read Fb = reading_made (clusters_of g Fb) (SpellsBits g front Fb) (fresh_bits g Fb) (λ c l. map_there Fb c (omega (arith, (bounds g is).fb_clusters)) l)
+  maps_read Fd = reading_made (clusters_of g Fd) (SpellsBits g front Fd) (fresh_bits g Fd) (λ c l. map_spelled Fd c (omega (arith, (bounds g is).fd_clusters)) l)
+  maps_read Sb = reading_made (clusters_of g Sb) (SpellsBits g front Sb) (fresh_bits g Sb) (λ c l. map_spelled Sb c (omega (arith, (bounds g is).sb_clusters)) l)
+  maps_read Pb = reading_made (clusters_of g Pb) (SpellsBits g front Pb) (fresh_bits g Pb) (λ c l. map_spelled Pb c (omega (arith, (bounds g is).pb_clusters)) l)
+  maps_read Fb = reading_made (clusters_of g Fb) (SpellsBits g front Fb) (fresh_bits g Fb) (λ c l. map_spelled Fb c (omega (arith, (bounds g is).fb_clusters)) l)
 
   fresh_reads : Reads g front (fresh_parts g)
   fresh_reads = record {
-    bodies = reading_made (items_of g Fd) (SpellsBody g front) fresh_body body_there;
+    bodies = reading_made (items_of g Fd) (SpellsBody g front) fresh_body body_spelled;
     maps = maps_read;
-    subs = reading_made (items_of g Sb) (SpellsSub g front) (λ _. empty_sub) sub_there;
-    ptrs = reading_made (items_of g Pb) (SpellsPtr g front) (λ _. empty_ptr) ptr_there;
+    subs = reading_made (items_of g Sb) (SpellsSub g front) (λ _. empty_sub) sub_spelled;
+    ptrs = reading_made (items_of g Pb) (SpellsPtr g front) (λ _. empty_ptr) ptr_spelled;
   }
 
   front_stands : StandsFor g (front_of g sectors) (fresh_tree g)
@@ -188,8 +188,8 @@ module _ (g : Geom) (volume : List ℕ) (sectors : List Sector) (is : IsGeom g) 
     is_tree = fresh-is_tree g is;
   }
 
-  slot_there : (number : ℕ) → number < g.slots → IsDecoded (Some fresh_slot) (SpellsSlot g (slice_get sectors) number)
-  slot_there number l =
+  slot_spelled : (number : ℕ) → number < g.slots → IsDecoded (Some fresh_slot) (SpellsSlot g (slice_get sectors) number)
+  slot_spelled number l =
       let few : g.slots ≤ 16 = (bounds g is).slots in
       let has = formatted.each (places.Slot number) l in
       decoded_one fresh_slot (SpellsSlot g (slice_get sectors) number) (fresh_slot_is, has)
@@ -198,13 +198,13 @@ module _ (g : Geom) (volume : List ℕ) (sectors : List Sector) (is : IsGeom g) 
 
   none_pending : (number : ℕ) (pairs : List Pair) → number < g.slots → ArePending g sectors number pairs → pairs ≡ []
   none_pending number pairs l pending =
-      let read = slot_there number l in
+      let read = slot_spelled number l in
       let same : pending.slot ≡ Some fresh_slot = (pending.decoded fresh_slot).1 ((read fresh_slot).0 refl) in
       let OfSlot : Option Slot → Type 0 = λ slot. AreOfSlot g sectors number slot pairs in
       subst OfSlot same pending.of_slot
 
   pending_none : (number : ℕ) → number < g.slots → ArePending g sectors number []
-  pending_none number l = record { slot = Some fresh_slot; decoded = slot_there number l; of_slot = refl }
+  pending_none number l = record { slot = Some fresh_slot; decoded = slot_spelled number l; of_slot = refl }
 
   -- the sectors in front of the file blocks are a logical image of the volume
   pub front_is_logical : IsLogical g sectors (front_of g sectors)
