@@ -2,6 +2,10 @@ pub mod BadSectors
 pub mod Decoded
 pub mod Guarding
 pub mod Laying
+pub mod FormattedUpTo
+pub mod FreshLists
+pub mod FreshParts
+pub mod FreshVolume
 pub mod Listed
 pub mod OneLogical
 pub mod Readings

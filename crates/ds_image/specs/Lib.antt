@@ -1,6 +1,7 @@
 pub mod Asking
 pub mod BadSectors
 pub mod Faults
+pub mod Formatted
 pub mod Guards
 pub mod ImageValues
 pub mod Laying

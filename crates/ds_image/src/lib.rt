@@ -3,6 +3,9 @@
 
 mod asks;
 mod bad_sectors;
+#[cfg(test)]
+mod format_tests;
+mod formatting;
 mod guards;
 mod images;
 mod logical;
@@ -17,6 +20,7 @@ mod seen;
 mod users;
 
 pub use asks::Ask;
+pub use formatting::format;
 pub use guards::guard;
 pub use images::{Image, ImageFault};
 pub use logical::overlay;
