@@ -59,7 +59,8 @@ lister_none g look kind p n cluster reads none =
     rw (least, past) refl
 
 -- the guard of a place is that of its sector
-pub guard_exact : (g : Geom) (look : Look) (place : Place) (at : ℕ) (r : Option ℕ) → IsGeom g → AreBlocks look → IsPlace g place → place_sector g place ≡ at
+pub guard_exact : (g : Geom) (look : Look) (place : Place) (at : ℕ) (r : Option ℕ) → IsGeom g → AreBlocks look → IsPlace g place
+    → place_sector g place ≡ at
     → ((p : Parts) → Reads g look p → r ≡ guard_of g p place) → IsDecoded r (IsGuard g look at)
 guard_exact g look place at r is blocks inside here answer object =
     let there = parts_there g look is blocks in (
@@ -90,7 +91,8 @@ guarded_places g p (places.PtrBlock n) = refl
 guarded_places g p (places.Block block index) = refl
 
 -- so a sector has a guard exactly where it is one of these
-pub guard_there : (g : Geom) (look : Look) (place : Place) (at : ℕ) (r : Option ℕ) → IsGeom g → AreBlocks look → IsPlace g place → place_sector g place ≡ at
+pub guard_there : (g : Geom) (look : Look) (place : Place) (at : ℕ) (r : Option ℕ) → IsGeom g → AreBlocks look → IsPlace g place
+    → place_sector g place ≡ at
     → ((p : Parts) → Reads g look p → r ≡ guard_of g p place) → IsSome r ↔ IsMetadata g at
 guard_there g look place at r is blocks inside here answer =
     let there = parts_there g look is blocks in

@@ -13,7 +13,8 @@ use Rattle.ds_image.specs.Readings.{Reads}
 use Rattle.ds_image.specs.SeenValues.{SeenValue, look_of, sector_in, with_sector, IsSeen}
 use Rattle.ds_image.proofs.Readings.{parts_there}
 
-choice : {X : Type 0} (test : Bool) (x : X) (rest others : Option X) → (if test then Some x else option_or rest others) ≡ option_or (if test then Some x else rest) others
+choice : {X : Type 0} (test : Bool) (x : X) (rest others : Option X)
+    → (if test then Some x else option_or rest others) ≡ option_or (if test then Some x else rest) others
 choice true x rest others = refl
 choice false x rest others = refl
 
@@ -33,14 +34,16 @@ one_holds : {X : Type 0} (P : X → Type 0) (test : Bool) (y : X) → P y → (x
 one_holds P true y holds x got = subst P (same_Some y x got) holds
 one_holds P false y holds x got = absurd cc
 
-pub blocks_seen : (pairs : List Pair) (at : ℕ) (s : Sector) → AreBlocks (sector_in pairs) → IsBlock s.bytes → AreBlocks (sector_in (pairs ++ (at, s) ∷ []))
+pub blocks_seen : (pairs : List Pair) (at : ℕ) (s : Sector) → AreBlocks (sector_in pairs) → IsBlock s.bytes
+    → AreBlocks (sector_in (pairs ++ (at, s) ∷ []))
 blocks_seen pairs at s before block k t got =
     let P : Sector → Type 0 = λ u. IsBlock u.bytes in
     either_holds P (sector_in pairs k) (sector_in ((at, s) ∷ []) k) (before k) (one_holds P (at == k) s block) t
     (sym (sector_in-append pairs ((at, s) ∷ []) k) ∙ got)
 
 -- one more sector of 512 bytes
-pub seen_sector : (seen : SeenValue) (at : ℕ) (s : Sector) → IsSeen seen → length seen.sectors < 256 → IsBlock s.bytes → IsSeen (with_sector seen at s)
+pub seen_sector : (seen : SeenValue) (at : ℕ) (s : Sector) → IsSeen seen → length seen.sectors < 256 → IsBlock s.bytes
+    → IsSeen (with_sector seen at s)
 seen_sector seen at s is room block = record {
   few_locks = is.few_locks;
   few_sectors = omega (arith, length_push seen.sectors (at, s));
