@@ -1,4 +1,9 @@
 pub mod Decoded
+pub mod LaidOver
+pub mod MarkedLists
+pub mod Marking
+pub mod OwnedCounts
+pub mod Owning
+pub mod Places
 pub mod Readings
 pub mod Standing
-pub mod LaidOver

@@ -3,9 +3,13 @@ pub mod Guards
 pub mod Logical
 pub mod Looks
 pub mod Metadata
+pub mod NameCounts
 pub mod Objects
+pub mod Owned
 pub mod Owns
+pub mod Parents
 pub mod Parts
 pub mod Pending
 pub mod Readings
 pub mod Sound
+pub mod Users

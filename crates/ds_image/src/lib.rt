@@ -1,2 +1,6 @@
 //! Logical images of a volume: the metadata with the pending pairs of all journals laid over it, and the tree for which an image stands.
 #![tactic(auto)]
+
+mod marks;
+
+pub use marks::Marks;
