@@ -24,6 +24,10 @@ reading_same n Spells xs ys p q =
     ext_get_or None xs ys (p.len ∙ sym q.len)
     (λ i l. decoded_same (part_at xs i) (part_at ys i) (Spells i) (p.each i (omega (arith, p.len))) (q.each i (omega (arith, p.len))))
 
+-- what is said of a sector's bytes is said of those of the sector that stands there
+sector_found : (look : Look) (at : ℕ) (s : Sector) → look at ≡ Some s → (P : List ℕ → Type 0) (t : Sector) → look at ≡ Some t → P t.bytes → P s.bytes
+sector_found look at s there P t found holds = let same : t ≡ s = cc in subst (λ (u : Sector). P u.bytes) same holds
+
 -- what a sector may spell can be decoded, and where there is no sector there is nothing to spell
 looked_by : {V : Type 0} (o : Option Sector) (Describes : List ℕ → V → Type 0) → ((s : Sector) → o ≡ Some s → IsBlock s.bytes)
     → ((bytes : List ℕ) → IsBlock bytes → (r : Option V) × IsDecoded r (Describes bytes))
@@ -54,6 +58,18 @@ pub numbered_there : {V : Type 0} (look : Look) (at : ℕ) (Has Is : V → Type 
 numbered_there look at Has Is spell blocks reading =
     let read = looked_at look at (λ bytes v. Has v × Is v × (bytes ≡ spell v)) blocks reading in
     (read.0, decoded_as read.0 _ (λ v. Has v × Is v × HasBytes look at (spell v)) (λ v d. (d.2.0, d.2.1, (d.0, d.1, d.2.2))) (λ v d. (d.2.0, d.2.1, (d.0, d.1, d.2.2))) read.1)
+
+-- what is decoded of a sector is what the sector spells, by its form alone
+pub spelled_at : {V : Type 0} (look : Look) (at : ℕ) (s : Sector) (Is : V → Type 0) (spell : V → List ℕ) (r : Option V) → look at ≡ Some s
+    → IsDecoded r (λ v. Is v × (s.bytes ≡ spell v)) → IsDecoded r (λ v. Is v × HasBytes look at (spell v))
+spelled_at look at s Is spell r there read =
+    decoded_as r _ _ (λ v d. (d.0, (s, there, d.1))) (λ v d. (d.0, sector_found look at s there (λ bytes. bytes ≡ spell v) d.1.0 d.1.1 d.1.2)) read
+
+-- and by its number too
+pub numbered_at : {V : Type 0} (look : Look) (at : ℕ) (s : Sector) (Has Is : V → Type 0) (spell : V → List ℕ) (r : Option V) → look at ≡ Some s
+    → IsDecoded r (λ v. Has v × Is v × (s.bytes ≡ spell v)) → IsDecoded r (λ v. Has v × Is v × HasBytes look at (spell v))
+numbered_at look at s Has Is spell r there read =
+    decoded_as r _ _ (λ v d. (d.0, d.1, (s, there, d.2))) (λ v d. (d.0, d.1, sector_found look at s there (λ bytes. bytes ≡ spell v) d.2.0 d.2.1 d.2.2)) read
 
 -- a part put behind others is read at its place
 reading_push : {V : Type 0} (n : ℕ) (Spells : ℕ → V → Type 0) (xs : List (Option V)) (r : Option V) → IsReading n Spells xs → IsDecoded r (Spells n) → IsReading (suc n) Spells (xs ++ r ∷ [])

@@ -1,9 +1,12 @@
+pub mod BadSectors
 pub mod Decoded
 pub mod LaidOver
+pub mod Listed
 pub mod MarkedLists
 pub mod Marking
 pub mod OwnedCounts
 pub mod Owning
 pub mod Places
 pub mod Readings
+pub mod Sizes
 pub mod Standing

@@ -39,3 +39,7 @@ pub record IsBad (g : Geom) (sectors : List Sector) (at : ℕ) : Type 0 where
 pub record IsLeastBad (g : Geom) (sectors : List Sector) (at : ℕ) : Type 0 where
   pub is_bad : IsBad g sectors at
   pub least : (other : ℕ) → other < at → ¬ IsBad g sectors other
+
+-- no sector is such a one
+abbrev pub HasNoBad : Geom → List Sector → Type 0
+HasNoBad g sectors = (at : ℕ) → ¬ IsBad g sectors at

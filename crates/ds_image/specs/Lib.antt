@@ -1,5 +1,6 @@
 pub mod BadSectors
 pub mod Guards
+pub mod ImageValues
 pub mod Logical
 pub mod Looks
 pub mod Metadata

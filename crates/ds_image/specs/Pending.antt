@@ -1,18 +1,16 @@
 -- Pending pairs: what committed journals still have to write.
-use Rattle.std.specs.Prelude.{◌≡◌, ℕ, List, [], length, map, slice_get, Option, Some, None}
+use Rattle.std.specs.Prelude.{All, ◌≡◌, ℕ, List, [], length, map, slice_get, Option, Some, None}
 use Rattle.ds_base.specs.Decoding.{IsDecoded}
 use Rattle.ds_base.specs.declared.geometry.Geom.{Geom}
 use Rattle.ds_base.specs.declared.sectors.Sector.{Sector}
-use Rattle.ds_jrnl.specs.Index.{IsIndex, index_bytes}
 use Rattle.ds_jrnl.specs.declared.index.Index.{Index}
 use Rattle.ds_layout.specs.Places.{place_sector}
 use Rattle.ds_layout.specs.declared.places.Place.TheVariants as places
 use Rattle.ds_marks.specs.declared.slot.Slot.{Slot}
 use Rattle.ds_marks.specs.declared.slot.Journal.{Journal}
 use Rattle.ds_marks.specs.declared.slot.Journal.TheVariants.{Idle, Committed}
-use Rattle.ds_image.specs.Looks.{HasBytes}
 use Rattle.ds_image.specs.Metadata.{IsMetadata}
-use Rattle.ds_image.specs.Readings.{SpellsSlot}
+use Rattle.ds_image.specs.Readings.{SpellsSlot, SpellsIndex}
 
 -- a sector's number, and what the sector is to hold
 abbrev pub Pair : Type 0
@@ -20,13 +18,12 @@ Pair = ℕ × Sector
 
 -- the index in a slot's journal, of this generation, transaction and count: all its targets are metadata
 pub record IsIndexOf (g : Geom) (sectors : List Sector) (slot generation txn count : ℕ) (x : Index) : Type 0 where
-  pub is_index : IsIndex x
-  pub there : HasBytes (slice_get sectors) (place_sector g (places.Journal slot 31)) (index_bytes x)
+  pub spelled : SpellsIndex g (slice_get sectors) slot x
   pub same_slot : x.slot ≡ slot
   pub same_generation : x.generation ≡ generation
   pub same_txn : x.txn ≡ txn
   pub same_count : length x.targets.items ≡ count
-  pub metadata : (i target : ℕ) → slice_get x.targets.items i ≡ Some target → IsMetadata g target
+  pub metadata : All (IsMetadata g) x.targets.items
 
 -- the pairs of the targets and of the sectors of a slot's journal, in their order
 pub record AreJournalled (g : Geom) (sectors : List Sector) (slot : ℕ) (targets : List ℕ) (pairs : List Pair) : Type 0 where

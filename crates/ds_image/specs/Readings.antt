@@ -5,6 +5,8 @@ use Rattle.ds_base.specs.declared.geometry.Geom.{Geom}
 use Rattle.ds_base.specs.declared.geometry.Kind.{Kind}
 use Rattle.ds_base.specs.declared.geometry.Kind.TheVariants.{Fd, Sb, Pb}
 use Rattle.ds_base.specs.Geometry.{clusters_of, items_of}
+use Rattle.ds_jrnl.specs.Index.{IsIndex, index_bytes}
+use Rattle.ds_jrnl.specs.declared.index.Index.{Index}
 use Rattle.ds_layout.specs.Places.{place_sector}
 use Rattle.ds_layout.specs.declared.places.Place.TheVariants as places
 use Rattle.ds_marks.specs.Slot.{IsSlot, slot_bytes}
@@ -24,6 +26,10 @@ use Rattle.ds_image.specs.Parts.{Parts, part_at, maps_of}
 -- the sector of a slot spells this
 abbrev pub SpellsSlot : Geom → Look → ℕ → Slot → Type 0
 SpellsSlot g look number s = IsSlot s × HasBytes look (place_sector g (places.Slot number)) (slot_bytes number s)
+
+-- the last sector of a slot's journal spells this
+abbrev pub SpellsIndex : Geom → Look → ℕ → Index → Type 0
+SpellsIndex g look slot x = IsIndex x × HasBytes look (place_sector g (places.Journal slot 31)) (index_bytes x)
 
 -- the sector of a lock object's header spells this
 abbrev pub SpellsHeader : Geom → Look → ℕ → Header → Type 0

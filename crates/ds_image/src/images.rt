@@ -1,0 +1,77 @@
+//! Logical images.
+ghost use Rattle.std.specs.Prelude.{◌≡◌, Some, MatchOption, slice_get, length};
+ghost use Rattle.ds_base.specs.Geometry.{IsGeom};
+ghost use Rattle.ds_layout.specs.Places.{blocks_at};
+ghost use Rattle.ds_image.specs.Metadata.{IsMetadata, is_metadata};
+
+use ds_base::{Geom, Sector, SectorNo};
+use ds_layout::{Place, place_of};
+use std::marker::Model;
+use thiserror::Error;
+
+/// The logical image of a volume: its metadata, with the pending pairs of all journals laid over them.
+#[derive(Drop)]
+pub struct Image {
+    geom: Geom,
+    sectors: Vec<Sector>,
+}
+
+impl Model for Image {
+    ghost use Rattle.std.specs.Prelude.{◌≡◌, length};
+    ghost use Rattle.ds_base.specs.Geometry.{IsGeom};
+    ghost use Rattle.ds_layout.specs.Places.{blocks_at};
+    ghost use Rattle.ds_image.specs.ImageValues.{ImageValue};
+
+    ghost Value = { ImageValue };
+
+    ghost view = { λ image. record { geom = image.geom; sectors = image.sectors.items } };
+
+    ghost invariant = { λ image. IsGeom image.geom × (length image.sectors.items ≡ blocks_at image.geom) };
+}
+
+/// Why there is no image: want of memory, or the least sector that is a slot or header that doesn't decode, or the index of
+/// a committed slot that isn't as it has to be.
+#[derive(Clone, Copy, Debug, PartialEq, Eq, Error)]
+pub enum ImageFault {
+    #[error("there was too little memory")]
+    NoMemory,
+    #[error("sector {sector} is bad")]
+    Bad { sector: SectorNo },
+}
+
+impl Image {
+    /// The image of these sectors, which are those in front of a volume's file blocks.
+    pub(crate) fn of_sectors(geom: &Geom, sectors: Vec<Sector>) -> Image
+        requires geom { IsGeom geom.now }
+        requires size { length sectors.items ≡ blocks_at geom.now }
+        ensures geom { result.geom ≡ geom.now }
+        ensures sectors { result.sectors ≡ sectors.items }
+    {
+        Image {
+            geom: *geom,
+            sectors,
+        }
+    }
+
+    /// The sector of a body, a bitmap, a sub-block or a pointer block; `None` where the sector is none of these.
+    pub fn sector(&self, at: SectorNo) -> Option<&Sector>
+        ensures { MatchOption result (¬ IsMetadata self.now.geom at)
+            (λ s. IsMetadata self.now.geom at × (slice_get self.now.sectors at ≡ Some s.now)) }
+    {
+        let place = place_of(&self.geom, at)?;
+        if !is_metadata(&place) {
+            return None;
+        }
+        self.sectors.get(at as usize)
+    }
+}
+
+/// Whether a place is that of a body, a bitmap, a sub-block or a pointer block.
+pub(crate) fn is_metadata(place: &Place) -> bool
+    ensures { result ≡ is_metadata place.now }
+{
+    matches!(
+        place,
+        Place::Body(_) | Place::Bitmap { .. } | Place::SubBlock(_) | Place::PtrBlock(_)
+    )
+}
