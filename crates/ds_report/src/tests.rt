@@ -1,12 +1,17 @@
 //! Small reports and listings, written out by hand.
+ghost use Rattle.ds_base.specs.Names.{IsName};
+ghost use Rattle.ds_tree.specs.CallNames.{HasNames};
+
 use crate::answers::{write_answer, write_page};
 use crate::growing::Growing;
 use crate::listing;
 use crate::reports::{text, whole};
 use arrayvec::ArrayVec;
-use ds_base::{Command, Geom, Key, Kind, Name, NodeKind, ObjNo, Response, Sector, Word};
+use ds_base::{Command, Geom, Key, Kind, Name, NodeKind, Response, Sector, Word};
 use ds_host::HostAnswer;
-use ds_tree::{CallOf, Directive, HostCallOf, HostPlan, Items, Scenario, Spoken, Tree, TreeReply};
+use ds_tree::{
+    Call, CallOf, Directive, HostCallOf, HostPlan, Items, Scenario, Spoken, Tree, TreeReply,
+};
 use ds_world::{Event, Log, Reply, Step};
 use std::alloc::Global;
 use std::process::Abort;
@@ -200,23 +205,32 @@ fn swap(host: u8, directive: u32, took: bool, dies: bool) -> Event {
     }
 }
 
-fn put(
-    rt: &impl Abort,
-    alloc: Global,
-    tree: &mut Tree,
-    dir: ObjNo,
-    bytes: &[u8],
-    key: Key,
-    kind: NodeKind,
-) -> Result<(), Fail> {
-    assert!(rt; key.object < tree.object_count());
-    match kind {
-        NodeKind::Dir => tree.put_dir(key, 4),
-        NodeKind::File => tree.put_file(key, vec![in alloc; 7, 8]?),
-    }
-    assert_eq!(rt; tree.kind(dir), Some(NodeKind::Dir));
-    tree.put_entry(dir, name(rt, bytes), key.object)?;
+fn word(rt: &impl Abort, bytes: &[u8]) -> Word
+    ensures { IsName result }
+{
+    Word::new(name(rt, bytes).bytes()).expect(rt, "a word")
+}
+
+fn step(rt: &impl Abort, tree: &mut Tree, call: &Call) -> Result<(), Fail>
+    requires { HasNames call.now }
+{
+    assert!(rt; !tree.worn());
+    tree.call(call)?;
     Ok(())
+}
+
+fn create(rt: &impl Abort, tree: &mut Tree, dir: Key, bytes: &[u8]) -> Result<(), Fail> {
+    let name = word(rt, bytes);
+    step(rt, tree, &CallOf::Create { dir, name })
+}
+
+fn mkdir(rt: &impl Abort, tree: &mut Tree, dir: Key, bytes: &[u8]) -> Result<(), Fail> {
+    let name = word(rt, bytes);
+    step(rt, tree, &CallOf::Mkdir { dir, name })
+}
+
+fn resize(rt: &impl Abort, tree: &mut Tree, file: Key) -> Result<(), Fail> {
+    step(rt, tree, &CallOf::Resize { file, blocks: 2 })
 }
 
 /// A directory below a directory, a file below that one, and names that byte order and paths sort differently.
@@ -224,21 +238,28 @@ fn tree(rt: &impl Abort, alloc: Global) -> Result<Tree, Fail> {
     let geom = small();
     assert!(rt; geom.check().is_ok());
     let mut tree = Tree::fresh(alloc, &geom)?;
-    put(rt, alloc, &mut tree, 0, b"f1", key(1, 1), NodeKind::File)?;
-    put(rt, alloc, &mut tree, 0, b"d", key(2, 1), NodeKind::Dir)?;
-    put(rt, alloc, &mut tree, 2, b"e", key(3, 2), NodeKind::Dir)?;
-    put(rt, alloc, &mut tree, 3, b"g", key(14, 5), NodeKind::File)?;
-    put(rt, alloc, &mut tree, 0, b"d.x", key(6, 1), NodeKind::Dir)?;
-    put(rt, alloc, &mut tree, 0, b"B", key(5, 11), NodeKind::File)?;
+    let root = key(0, 1);
+    create(rt, &mut tree, root, b"f1")?;
+    resize(rt, &mut tree, key(1, 1))?;
+    mkdir(rt, &mut tree, root, b"d")?;
+    create(rt, &mut tree, root, b"B")?;
+    let name = word(rt, b"B");
+    step(rt, &mut tree, &CallOf::Remove { dir: root, name })?;
+    mkdir(rt, &mut tree, key(2, 1), b"e")?;
+    create(rt, &mut tree, key(3, 2), b"g")?;
+    resize(rt, &mut tree, key(4, 1))?;
+    mkdir(rt, &mut tree, root, b"d.x")?;
+    create(rt, &mut tree, root, b"B")?;
+    resize(rt, &mut tree, key(6, 1))?;
     Ok(tree)
 }
 
 const LISTING: &[u8] = b"/ 0.1 dir\n\
-    /B 5.11 file 2\n\
+    /B 6.1 file 2\n\
     /d 2.1 dir\n\
     /d/e 3.2 dir\n\
-    /d/e/g 14.5 file 2\n\
-    /d.x 6.1 dir\n\
+    /d/e/g 4.1 file 2\n\
+    /d.x 5.1 dir\n\
     /f1 1.1 file 2\n";
 
 const PARTS: &[u8] = b"a 1 register ok 0.1\n\

@@ -6,11 +6,11 @@ mod Renaming
 mod Granted
 mod Pages
 mod FreeBlocks
-mod FreshTree
+pub mod FreshTree
 mod Changed
 mod MakeKeeps
 mod RemoveKeeps
 mod RenameInsideKeeps
 mod RenameAcrossKeeps
 mod ResizeKeeps
-mod StepKeeps
+pub mod StepKeeps

@@ -78,7 +78,7 @@ pub type HostCall = HostCallOf<Key>;
 
 /// What the file tree answers to a call. The size of a file is its number of blocks, that of a directory its number
 /// of rooms.
-#[derive(Debug, Drop)]
+#[derive(Debug, Drop, PartialEq, Eq)]
 pub enum TreeReply {
     Made {
         key: Key,

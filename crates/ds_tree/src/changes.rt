@@ -11,10 +11,10 @@ ghost use Rattle.ds_tree.specs.Steps.{is_dir, is_file, Makes, Removes, Renames};
 ghost use Rattle.ds_tree.specs.Trees.{empty_node, entries_of, is_worn};
 ghost use Rattle.ds_tree.specs.WellFormed.{IsTree};
 
-use crate::trees::Tree;
+use crate::tables::Table;
 use ds_base::{Key, Kind, Name, NoMemory, NodeKind, ObjNo};
 
-impl Tree {
+impl Table {
     /// Makes an empty directory or file under a new name.
     pub(crate) fn make(&mut self, dir: Key, name: Name, kind: NodeKind) -> Result<Key, NoMemory>
         requires dir { is_dir (node_at self.old.tree dir.object) ≡ true }

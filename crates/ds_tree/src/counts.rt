@@ -5,10 +5,10 @@ ghost use Rattle.ds_tree.specs.Counts.{pointer_blocks, node_uses, used_of, free_
 ghost use Rattle.ds_tree.specs.WellFormed.{IsTree};
 
 use crate::objects::{NodeInMemory, ObjectInMemory};
-use crate::trees::Tree;
+use crate::tables::Table;
 use ds_base::Kind;
 
-impl Tree {
+impl Table {
     /// The items of a kind that no object uses.
     pub(crate) fn free(&self, kind: Kind) -> u64
         requires { IsTree self.now.geom self.now.tree }

@@ -9,14 +9,14 @@ ghost use Rattle.ds_tree.specs.WellFormed.{IsTree};
 
 use crate::objects::NodeInMemory;
 use crate::refusals::name_of;
-use crate::trees::Tree;
+use crate::tables::Table;
 use arrayvec::ArrayVec;
 use ds_base::{Key, Name, NoMemory, NodeKind, ObjNo, Word};
 
 /// The blocks of a page of a file's map.
 const PAGE: usize = 128;
 
-impl Tree {
+impl Table {
     /// The object of an entry, and what it is.
     pub(crate) fn lookup(&self, dir: Key, name: &Name) -> (Key, NodeKind)
         requires dir { is_dir (node_at self.now.tree dir.object) ≡ true }

@@ -10,12 +10,12 @@ use crate::calls::{Call, CallOf, TreeReply};
 use crate::counts::pointer_blocks;
 use crate::listing::Listing;
 use crate::objects::NodeInMemory;
-use crate::trees::Tree;
+use crate::tables::Table;
 use ds_base::{Key, Kind, Name, ObjNo, Word};
 
-impl Tree {
+impl Table {
     /// The first refusal of a call whose condition holds; `None` where the call succeeds.
-    pub fn refusal(&self, call: &Call) -> Option<TreeReply>
+    pub(crate) fn refusal(&self, call: &Call) -> Option<TreeReply>
         requires names { HasNames call.now }
         requires tree { IsTree self.now.geom self.now.tree }
         ensures { result ≡ steps.refusal self.now.geom self.now.tree call.now }

@@ -9,12 +9,12 @@ ghost use Rattle.ds_tree.specs.WellFormed.{IsTree};
 use crate::calls::{Call, CallOf, TreeReply};
 use crate::reads::after_of;
 use crate::refusals::name_of;
-use crate::trees::Tree;
+use crate::tables::Table;
 use ds_base::{NoMemory, NodeKind};
 
-impl Tree {
+impl Table {
     /// Carries out a call: refuses it, or changes the tree as the call asks, with the lowest free numbers.
-    pub fn call(&mut self, call: &Call) -> Result<TreeReply, NoMemory>
+    pub(crate) fn call(&mut self, call: &Call) -> Result<TreeReply, NoMemory>
         requires names { HasNames call.now }
         requires tree { IsTree self.old.geom self.old.tree }
         requires fit { is_worn self.old.tree ≡ false }

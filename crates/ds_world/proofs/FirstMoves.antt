@@ -404,10 +404,9 @@ moved-registered w h new d answer rests at is =
 pub block_is : (w : FirstWorldValue) (h : FirstHolds w) (s : Sector) (block : SubBlock) → slice_get w.device 0 ≡ Some s → SpellsRooms s block → h.block ≡ block
 block_is w h s block at spelled = block_read w h s block (sector_read w h s at) spelled
 
-pub numbered_block : (w : FirstWorldValue) (h : FirstHolds w) (s : Sector) (block : SubBlock) → slice_get w.device 0 ≡ Some s → SpellsRooms s block → NumberedFrom 1 (entries_in block.rooms)
-numbered_block w h s block at spelled =
-    let same = block_is w h s block at spelled in
-    subst (λ (b : SubBlock). NumberedFrom 1 (entries_in b.rooms)) same (subst (NumberedFrom 1) (sym (entries_held w h)) h.numbered)
+-- its entries are those so far
+pub block_entries : (w : FirstWorldValue) (h : FirstHolds w) (s : Sector) (block : SubBlock) → slice_get w.device 0 ≡ Some s → SpellsRooms s block → h.entries ≡ entries_in block.rooms
+block_entries w h s block at spelled = sym (entries_held w h) ∙ ap (λ (b : SubBlock). entries_in b.rooms) (block_is w h s block at spelled)
 
 -- the device stands for the tree of its entries
 pub tree_stands : (w : FirstWorldValue) (h : FirstHolds w) (s : Sector) (block : SubBlock) (t : FileTree) → slice_get w.device 0 ≡ Some s → SpellsRooms s block → t ≡ tree_of first_geom (entries_in block.rooms)

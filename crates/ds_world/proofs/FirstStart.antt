@@ -5,6 +5,9 @@ use Rattle.std.specs.List.{AllByRecursion}
 use Rattle.std.proofs.lemmas.List.Sums.{sum_by-cons}
 use Rattle.ds_base.specs.declared.sectors.Sector.{Sector}
 use Rattle.ds_base.specs.declared.names.Key.{Key}
+use Rattle.ds_base.specs.declared.geometry.GeomField.TheVariants.{Slots, Block, Clusters, Items}
+use Rattle.ds_base.specs.declared.geometry.Kind.TheVariants.{Fd, Sb, Pb, Fb}
+use Rattle.ds_base.specs.Geometry.{IsGeom}
 use Rattle.ds_tree.specs.declared.calls.CallOf.TheVariants as calls
 use Rattle.ds_tree.specs.declared.calls.HostCallOf.TheVariants as host_calls
 use Rattle.ds_tree.specs.declared.scenarios.Directive.{Directive}
@@ -14,6 +17,7 @@ use Rattle.ds_tree.specs.declared.scenarios.Scenario.{Scenario}
 use Rattle.ds_tree.specs.declared.variables.Spoken.{Spoken}
 use Rattle.ds_tree.specs.declared.variables.Spoken.TheVariants.{Root}
 use Rattle.ds_tree.specs.FirstForm.{register, is_create, first_geom, IsFirstDirective, IsFirstForm}
+use Rattle.ds_tree.proofs.FreshTree.{fresh-is_tree}
 use Rattle.ds_dir.proofs.Laws.{empty_sub, sub_bytes-empty, IsSubBlock-empty}
 use Rattle.ds_host.specs.declared.first_host.Stage.TheVariants.{Rest}
 use Rattle.std.proofs.Math.Seq.{take-length, drop-length}
@@ -94,6 +98,18 @@ creates_first s form =
     let all : count_by is_create (drop 0 (list_of s 0)) ≡ count_by is_create (register ∷ form.calls) = ap (λ (list : List Directive). count_by is_create (drop 0 list)) (list_is s form) in
     omega (arith, all, sum_by-cons (λ (d : Directive). cond {A = ℕ} (is_create d) 1 0) register form.calls, form.creates)
 
+first_geom-is : IsGeom first_geom
+first_geom-is Slots = (omega arith, omega arith)
+first_geom-is Block = (omega arith, omega arith)
+first_geom-is (Clusters Fd) = (omega arith, omega arith)
+first_geom-is (Clusters Sb) = (omega arith, omega arith)
+first_geom-is (Clusters Pb) = (omega arith, omega arith)
+first_geom-is (Clusters Fb) = (omega arith, omega arith)
+first_geom-is (Items Fd) = (omega arith, omega arith)
+first_geom-is (Items Sb) = (omega arith, omega arith)
+first_geom-is (Items Pb) = (omega arith, omega arith)
+first_geom-is (Items Fb) = (omega arith, omega arith)
+
 pub first_holds : (s : Scenario) → IsFirstForm s → FirstHolds (first_value s)
 first_holds s form =
     let P : List Event → Type 0 = StandsAfter first_rules (tree_of first_geom [] ∷ []) in
@@ -106,6 +122,7 @@ first_holds s form =
       free = 4;
       holds = record { one = refl; spelled = (IsSubBlock-empty, sym sub_bytes-empty); packed = refl; four = refl };
       numbered = tt;
+      rules = fresh-is_tree first_geom first_geom-is;
       room = omega (arith, creates_first s form);
       is_store = refl;
       trees = tree_of first_geom [] ∷ [];

@@ -82,6 +82,7 @@ FirstHolds-spare w spare h = record {
   free = h.free;
   holds = h.holds;
   numbered = h.numbered;
+  rules = h.rules;
   room = h.room;
   is_store = h.is_store;
   trees = h.trees;

@@ -18,6 +18,7 @@ use Rattle.ds_tree.specs.declared.scenarios.Directive.{Directive}
 use Rattle.ds_tree.specs.FirstForm.{is_create, first_geom, register}
 use Rattle.ds_tree.specs.Nodes.{FileTree, root_key}
 use Rattle.ds_tree.specs.Steps.{Does}
+use Rattle.ds_tree.proofs.StepKeeps.{step-keeps}
 use Rattle.ds_host.specs.declared.answers.HostAnswer.{HostAnswer}
 use Rattle.ds_host.specs.declared.answers.HostAnswer.TheVariants.{Tree, Registered, Damaged}
 use Rattle.ds_host.specs.declared.first_host.RootCall.{RootCall}
@@ -166,6 +167,7 @@ turn-registered w h rest due =
       free = h.free;
       holds = h.holds;
       numbered = h.numbered;
+      rules = h.rules;
       room = less_creates w h register due;
       is_store = h.is_store ∙ sym (store-push first_rules.start events e);
       trees = h.trees;
@@ -210,6 +212,7 @@ turn-begun w h call rest under_way = record {
   free = h.free;
   holds = h.holds;
   numbered = h.numbered;
+  rules = h.rules;
   room = h.room;
   is_store = h.is_store;
   trees = h.trees;
@@ -259,6 +262,7 @@ turn-answered w h call x reading does =
       free = h.free;
       holds = h.holds;
       numbered = h.numbered;
+      rules = h.rules;
       room = less_creates w h (root_directive call) under_way.due;
       is_store = h.is_store ∙ sym (store-push first_rules.start events e);
       trees = h.trees;
@@ -337,6 +341,7 @@ turn-filling w h name fresh reading absent spelled =
       free = h.free;
       holds = h.holds;
       numbered = h.numbered;
+      rules = h.rules;
       room = h.room;
       is_store = h.is_store ∙ sym (store-push first_rules.start events e);
       trees = h.trees;
@@ -452,6 +457,7 @@ committed w h name verify fresh k filling is free =
       free = k;
       holds = record { one = refl; spelled = is.spelled; packed = packed; four = omega (arith, four, free, len) };
       numbered = numbered-push 1 h.entries new h.numbered number refl;
+      rules = step-keeps first_geom (tree_of first_geom h.entries) h.rules (calls.Create root_key name) (Made key) u under_way.is_name does;
       room = omega (arith, h.room, creates_left (list_of w.scenario 0) w.position directive under_way.due, len);
       is_store = sym after;
       trees = h.trees ++ u ∷ [];

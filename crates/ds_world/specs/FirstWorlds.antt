@@ -13,6 +13,7 @@ use Rattle.ds_tree.specs.declared.scenarios.Directive.TheVariants as directives
 use Rattle.ds_tree.specs.declared.scenarios.Scenario.{Scenario}
 use Rattle.ds_tree.specs.declared.variables.Spoken.TheVariants.{Root}
 use Rattle.ds_tree.specs.Nodes.{FileTree}
+use Rattle.ds_tree.specs.WellFormed.{IsTree}
 use Rattle.ds_tree.specs.FirstForm.{register, first_geom, is_create, IsFirstForm}
 use Rattle.ds_dir.specs.declared.sub_block.Entry.{Entry}
 use Rattle.ds_dir.specs.declared.sub_block.SubBlock.{SubBlock}
@@ -149,6 +150,7 @@ pub record FirstHolds (w : FirstWorldValue) : Type 0 where
   pub free : ℕ
   pub holds : HoldsEntries w.device sector block entries free
   pub numbered : NumberedFrom 1 entries
+  pub rules : IsTree first_geom (tree_of first_geom entries)
   pub room : length entries + count_by is_create (drop w.position (list_of w.scenario 0)) ≤ 4
   pub is_store : w.device ≡ store first_rules.start w.log.events
   pub trees : List FileTree

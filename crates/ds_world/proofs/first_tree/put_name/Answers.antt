@@ -7,8 +7,8 @@ use Rattle.ds_world.specs.FirstTrees.{with_name, IsRooted}
 use Rattle.ds_world.proofs.FirstTreeBuilt.{named_rooted}
 use Rattle.ds_world.proofs.first_tree.put_name.Goals as goal
 
-pub returns-in_ok-put_entry : goal.returns-in_ok-put_entry
-returns-in_ok-put_entry c = λ rest names rooms some rooted.
+pub returns-in_ok-put_entry-clause-named : goal.returns-in_ok-put_entry-clause-named
+returns-in_ok-put_entry-clause-named c = λ rest names rooms some rooted.
     let t = c.args.tree.now.tree in
     let u = c.put_entry.new.self.tree in
     let e = c.in-Some.entry in

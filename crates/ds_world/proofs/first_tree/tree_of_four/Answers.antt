@@ -61,7 +61,7 @@ put_name-requires-2 c =
     let count : length files.objects ≡ 16 = c.put_file-4.ensures.count ∙ c.put_file-3.ensures.count ∙ c.put_file-2.ensures.count ∙ c.put_file.ensures.count ∙ ap (λ (t : FileTree). length t.objects) fresh in
     let some : 0 < length files.objects = omega (arith, count) in
     let root : IsRooted files maps.empty c.args.rooms c.put_dir.new.self.tree = c.put_dir.ensures.tree in
-    let root1 : IsRooted files (with_name maps.empty c.args.fourth.now) c.args.rooms c.put_name.new.tree.tree = c.in_ok-put_name.ensures files maps.empty c.args.rooms some root in
+    let root1 : IsRooted files (with_name maps.empty c.args.fourth.now) c.args.rooms c.put_name.new.tree.tree = c.in_ok-put_name.ensures.named files maps.empty c.args.rooms some root in
     rooted_is_dir files _ c.args.rooms c.put_name.new.tree.tree some root1
 
 pub put_name-requires-3 : goal.put_name-requires-3
@@ -76,8 +76,8 @@ put_name-requires-3 c =
     let count : length files.objects ≡ 16 = c.put_file-4.ensures.count ∙ c.put_file-3.ensures.count ∙ c.put_file-2.ensures.count ∙ c.put_file.ensures.count ∙ ap (λ (t : FileTree). length t.objects) fresh in
     let some : 0 < length files.objects = omega (arith, count) in
     let root : IsRooted files maps.empty c.args.rooms c.put_dir.new.self.tree = c.put_dir.ensures.tree in
-    let root1 : IsRooted files (with_name maps.empty c.args.fourth.now) c.args.rooms c.put_name.new.tree.tree = c.in_ok-put_name.ensures files maps.empty c.args.rooms some root in
-    let root2 : IsRooted files (with_name (with_name maps.empty c.args.fourth.now) c.args.third.now) c.args.rooms c.put_name-2.new.tree.tree = c.in_ok-put_name-2.ensures files _ c.args.rooms some root1 in
+    let root1 : IsRooted files (with_name maps.empty c.args.fourth.now) c.args.rooms c.put_name.new.tree.tree = c.in_ok-put_name.ensures.named files maps.empty c.args.rooms some root in
+    let root2 : IsRooted files (with_name (with_name maps.empty c.args.fourth.now) c.args.third.now) c.args.rooms c.put_name-2.new.tree.tree = c.in_ok-put_name-2.ensures.named files _ c.args.rooms some root1 in
     rooted_is_dir files _ c.args.rooms c.put_name-2.new.tree.tree some root2
 
 pub put_name-requires-4 : goal.put_name-requires-4
@@ -92,13 +92,13 @@ put_name-requires-4 c =
     let count : length files.objects ≡ 16 = c.put_file-4.ensures.count ∙ c.put_file-3.ensures.count ∙ c.put_file-2.ensures.count ∙ c.put_file.ensures.count ∙ ap (λ (t : FileTree). length t.objects) fresh in
     let some : 0 < length files.objects = omega (arith, count) in
     let root : IsRooted files maps.empty c.args.rooms c.put_dir.new.self.tree = c.put_dir.ensures.tree in
-    let root1 : IsRooted files (with_name maps.empty c.args.fourth.now) c.args.rooms c.put_name.new.tree.tree = c.in_ok-put_name.ensures files maps.empty c.args.rooms some root in
-    let root2 : IsRooted files (with_name (with_name maps.empty c.args.fourth.now) c.args.third.now) c.args.rooms c.put_name-2.new.tree.tree = c.in_ok-put_name-2.ensures files _ c.args.rooms some root1 in
-    let root3 : IsRooted files (with_name (with_name (with_name maps.empty c.args.fourth.now) c.args.third.now) c.args.second.now) c.args.rooms c.put_name-3.new.tree.tree = c.in_ok-put_name-3.ensures files _ c.args.rooms some root2 in
+    let root1 : IsRooted files (with_name maps.empty c.args.fourth.now) c.args.rooms c.put_name.new.tree.tree = c.in_ok-put_name.ensures.named files maps.empty c.args.rooms some root in
+    let root2 : IsRooted files (with_name (with_name maps.empty c.args.fourth.now) c.args.third.now) c.args.rooms c.put_name-2.new.tree.tree = c.in_ok-put_name-2.ensures.named files _ c.args.rooms some root1 in
+    let root3 : IsRooted files (with_name (with_name (with_name maps.empty c.args.fourth.now) c.args.third.now) c.args.second.now) c.args.rooms c.put_name-3.new.tree.tree = c.in_ok-put_name-3.ensures.named files _ c.args.rooms some root2 in
     rooted_is_dir files _ c.args.rooms c.put_name-3.new.tree.tree some root3
 
-pub returns : goal.returns
-returns c =
+pub returns-clause-tree : goal.returns-clause-tree
+returns-clause-tree c =
     let files = c.put_file-4.new.tree.tree in
     let fresh : c.in_ok-tree.tree.tree ≡ fresh_tree first_geom = c.in_ok-tree.ensures.tree ∙ ap fresh_tree c.requires.geom in
     let filed : files ≡ fold with_room (fresh_tree first_geom) (c.args.first.now ∷ c.args.second.now ∷ c.args.third.now ∷ c.args.fourth.now ∷ []) =
@@ -109,8 +109,8 @@ returns c =
     let count : length files.objects ≡ 16 = c.put_file-4.ensures.count ∙ c.put_file-3.ensures.count ∙ c.put_file-2.ensures.count ∙ c.put_file.ensures.count ∙ ap (λ (t : FileTree). length t.objects) fresh in
     let some : 0 < length files.objects = omega (arith, count) in
     let root : IsRooted files maps.empty c.args.rooms c.put_dir.new.self.tree = c.put_dir.ensures.tree in
-    let root1 : IsRooted files (with_name maps.empty c.args.fourth.now) c.args.rooms c.put_name.new.tree.tree = c.in_ok-put_name.ensures files maps.empty c.args.rooms some root in
-    let root2 : IsRooted files (with_name (with_name maps.empty c.args.fourth.now) c.args.third.now) c.args.rooms c.put_name-2.new.tree.tree = c.in_ok-put_name-2.ensures files _ c.args.rooms some root1 in
-    let root3 : IsRooted files (with_name (with_name (with_name maps.empty c.args.fourth.now) c.args.third.now) c.args.second.now) c.args.rooms c.put_name-3.new.tree.tree = c.in_ok-put_name-3.ensures files _ c.args.rooms some root2 in
-    let root4 : IsRooted files (with_name (with_name (with_name (with_name maps.empty c.args.fourth.now) c.args.third.now) c.args.second.now) c.args.first.now) c.args.rooms c.put_name-4.new.tree.tree = c.in_ok-put_name-4.ensures files _ c.args.rooms some root3 in
+    let root1 : IsRooted files (with_name maps.empty c.args.fourth.now) c.args.rooms c.put_name.new.tree.tree = c.in_ok-put_name.ensures.named files maps.empty c.args.rooms some root in
+    let root2 : IsRooted files (with_name (with_name maps.empty c.args.fourth.now) c.args.third.now) c.args.rooms c.put_name-2.new.tree.tree = c.in_ok-put_name-2.ensures.named files _ c.args.rooms some root1 in
+    let root3 : IsRooted files (with_name (with_name (with_name maps.empty c.args.fourth.now) c.args.third.now) c.args.second.now) c.args.rooms c.put_name-3.new.tree.tree = c.in_ok-put_name-3.ensures.named files _ c.args.rooms some root2 in
+    let root4 : IsRooted files (with_name (with_name (with_name (with_name maps.empty c.args.fourth.now) c.args.third.now) c.args.second.now) c.args.first.now) c.args.rooms c.put_name-4.new.tree.tree = c.in_ok-put_name-4.ensures.named files _ c.args.rooms some root3 in
     built c.args.first.now c.args.second.now c.args.third.now c.args.fourth.now c.args.rooms files c.put_name-4.new.tree.tree c.requires.numbered filed c.requires.rooms root4

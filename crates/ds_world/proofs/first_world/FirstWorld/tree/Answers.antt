@@ -1,13 +1,15 @@
-use Rattle.std.proofs.Common.{◌≡◌, ap, subst, Some}
+use Rattle.std.proofs.Common.{◌≡◌, List, ap, subst, Some}
 use Rattle.std.specs.Prelude.{slice_get}
 use Rattle.ds_base.specs.declared.sectors.Sector.{Sector}
 use Rattle.ds_tree.specs.Nodes.{FileTree}
 use Rattle.ds_tree.specs.FirstForm.{first_geom}
+use Rattle.ds_tree.specs.WellFormed.{IsTree}
+use Rattle.ds_dir.specs.declared.sub_block.Entry.{Entry}
 use Rattle.ds_host.specs.FirstConduct.{SpellsRooms}
 use Rattle.ds_world.specs.Store.{store}
-use Rattle.ds_world.specs.FirstRules.{first_rules, IsTreeOf}
+use Rattle.ds_world.specs.FirstRules.{NumberedFrom, first_rules, tree_of, IsTreeOf}
 use Rattle.ds_world.specs.FirstWorlds.{FirstWorldValue, FirstHolds}
-use Rattle.ds_world.proofs.FirstMoves.{numbered_block, tree_stands, tree_only}
+use Rattle.ds_world.proofs.FirstMoves.{block_entries, tree_stands, tree_only}
 use Rattle.ds_world.proofs.first_world.FirstWorld.tree.Goals as goal
 
 pub tree_of_block-requires-clause-numbered : goal.tree_of_block-requires-clause-numbered
@@ -18,7 +20,17 @@ tree_of_block-requires-clause-numbered c =
     let sector = c.block_of-block.ensures.0 in
     let at : slice_get w.device 0 ≡ Some sector = c.block_of-block.ensures.1 in
     let spelled : SpellsRooms sector block = c.block_of-block.ensures.2 in
-    numbered_block w h sector block at spelled
+    subst (NumberedFrom 1) (block_entries w h sector block at spelled) h.numbered
+
+pub tree_of_block-requires-clause-rules : goal.tree_of_block-requires-clause-rules
+tree_of_block-requires-clause-rules c =
+    let w : FirstWorldValue = record { scenario = c.self.inside.scenario; position = c.self.inside.position; host = c.self.inside.host; device = c.self.inside.device; commits = c.self.inside.commits; log = c.self.inside.log } in
+    let h : FirstHolds w = c.self.invariant in
+    let block = c.block_of-block.result in
+    let sector = c.block_of-block.ensures.0 in
+    let at : slice_get w.device 0 ≡ Some sector = c.block_of-block.ensures.1 in
+    let spelled : SpellsRooms sector block = c.block_of-block.ensures.2 in
+    subst (λ (es : List Entry). IsTree first_geom (tree_of first_geom es)) (block_entries w h sector block at spelled) h.rules
 
 pub returns : goal.returns
 returns c =
