@@ -1,9 +1,11 @@
 pub mod BadSectors
 pub mod Decoded
+pub mod Fronts
 pub mod LaidOver
 pub mod Listed
 pub mod MarkedLists
 pub mod Marking
+pub mod PartsRead
 pub mod OwnedCounts
 pub mod Owning
 pub mod Places

@@ -4,6 +4,7 @@
 mod bad_sectors;
 mod images;
 mod marks;
+mod parts;
 mod reads;
 
 pub use images::{Image, ImageFault};
