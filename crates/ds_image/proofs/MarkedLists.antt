@@ -1,11 +1,11 @@
 -- One more item marked, and what a list that is marked or isn't says of ownership.
-use Rattle.std.proofs.Common.{◌≡◌, ℕ, ◌+◌, ◌<◌, ◌≤◌, Bool, true, false, List, [], ◌∷◌, ◌++◌, length, take, drop, get_or, set, min, ◌-◌, IsTrue, refl, sym, ap, ◌∙◌, subst, arith}
+use Rattle.std.proofs.Common.{arith, ◌≡◌, ℕ, ◌+◌, ◌<◌, ◌≤◌, Bool, true, false, List, [], ◌∷◌, ◌++◌, length, take, drop, get_or, set, min, ◌-◌, refl, sym, ap, ◌∙◌, subst}
 use Rattle.std.specs.Prelude.{Some, slice_get, ◌↔◌}
 use Rattle.std.specs.Bool.{Decides}
 use Rattle.std.specs.Cmp.Lexicographic.{pointwise}
 use Rattle.std.proofs.lemmas.Slice.Eq.{slice_eq-Decides}
 use mathlib.Core.Bool.{beq}
-use Rattle.std.proofs.lemmas.List.{take_more, take_all, take_rest, take-append-drop, drop_min}
+use Rattle.std.proofs.lemmas.List.{take_more, take_all, take_rest, take-append-drop, take-take, drop-take, drop_min}
 use Rattle.std.proofs.lemmas.Option.{slice_get_within}
 use Rattle.ds_image.specs.Owns.{Owns}
 use Rattle.ds_image.specs.Owned.{CanMark, AddsMarks, StopsMarking}
@@ -73,3 +73,15 @@ same-marks xs ys marks r same is =
 -- what stands from a place on, or nothing past the end
 pub rest-from : (marks : List Bool) (first at n : ℕ) → at ≡ min first (length marks) → take n (take (length marks - at) (drop at marks)) ≡ take n (drop first marks)
 rest-from marks first at n is = ap (take n) (take_rest marks at ∙ ap (λ k. drop k marks) is ∙ drop_min first marks)
+
+take-add : (n m : ℕ) (xs : List Bool) → take (n + m) xs ≡ take n xs ++ take m (drop n xs)
+take-add n m xs =
+    sym (take-append-drop n (take (n + m) xs))
+    ∙ ap (λ l. l ++ drop n (take (n + m) xs)) (take-take n (n + m) xs (omega arith))
+    ∙ ap (λ l. take n xs ++ l) (drop-take n m xs)
+
+-- marks that begin with some and go on with others, as cluster after cluster
+pub marks-go_on : (marks before bits : List Bool) (n : ℕ) → take n marks ≡ before → take (length bits) (drop n marks) ≡ bits
+    → take (n + length bits) marks ≡ before ++ bits
+marks-go_on marks before bits n front next =
+    take-add n (length bits) marks ∙ ap (λ l. l ++ take (length bits) (drop n marks)) front ∙ ap (λ l. before ++ l) next

@@ -1,6 +1,7 @@
 pub mod BadSectors
 pub mod Guards
 pub mod ImageValues
+pub mod KnownUsers
 pub mod Logical
 pub mod Looks
 pub mod Metadata
@@ -8,9 +9,11 @@ pub mod NameCounts
 pub mod Objects
 pub mod Owned
 pub mod Owns
+pub mod ParentWalks
 pub mod Parents
 pub mod Parts
 pub mod Pending
 pub mod Readings
 pub mod Sound
+pub mod TreeParents
 pub mod Users

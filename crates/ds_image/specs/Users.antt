@@ -1,9 +1,19 @@
 -- Which objects use an item, from a list of all uses.
 use Rattle.std.specs.Prelude.{◌≡◌, ℕ, ◌<◌, ◌==◌, List, [], length, take, map, filter, slice_index_or}
+use Rattle.std.specs.List.{flat_map, range_with_len}
+use Rattle.ds_image.specs.Owns.{list_of}
 
 -- the objects that use an item, in the order of the uses; a use is an item and an object
 abbrev pub users : List (ℕ × ℕ) → ℕ → List ℕ
 users uses item = map (λ u. u.1) (filter (λ u. u.0 == item) uses)
+
+-- the uses of items by one object that lists them
+abbrev pub uses_by : ℕ → List ℕ → List (ℕ × ℕ)
+uses_by object items = map (λ item. (item, object)) items
+
+-- all uses of items, object by object, each in the order of its list
+abbrev pub uses_of : List (List ℕ) → List (ℕ × ℕ)
+uses_of lists = flat_map (λ object. uses_by object (list_of lists object)) (range_with_len 0 (length lists))
 
 -- the users that a table has of an item
 abbrev pub users_in : List (List ℕ) → ℕ → List ℕ

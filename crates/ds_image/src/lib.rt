@@ -4,8 +4,14 @@
 mod bad_sectors;
 mod images;
 mod marks;
+mod name_counts;
+mod parents;
 mod parts;
 mod reads;
+mod users;
 
 pub use images::{Image, ImageFault};
 pub use marks::Marks;
+pub use name_counts::NameCounts;
+pub use parents::reached;
+pub use users::Users;
