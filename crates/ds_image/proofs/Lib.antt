@@ -4,10 +4,12 @@ pub mod Decoded
 pub mod Fronts
 pub mod LaidOver
 pub mod Listed
+pub mod ListedItems
 pub mod MarkedLists
 pub mod Marking
 pub mod NotedUsers
 pub mod OwnedCounts
+pub mod OwnedLists
 pub mod Owning
 pub mod PartsRead
 pub mod Places

@@ -2,6 +2,7 @@ pub mod BadSectors
 pub mod Guards
 pub mod ImageValues
 pub mod KnownUsers
+pub mod Listings
 pub mod Logical
 pub mod Looks
 pub mod Metadata

@@ -3,8 +3,10 @@
 
 mod bad_sectors;
 mod images;
+mod listings;
 mod marks;
 mod name_counts;
+mod owners;
 mod parents;
 mod parts;
 mod reads;
