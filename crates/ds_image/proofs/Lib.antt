@@ -7,7 +7,9 @@ pub mod Listed
 pub mod ListedItems
 pub mod MarkedLists
 pub mod Marking
+pub mod NamesApart
 pub mod NotedUsers
+pub mod ObjectSound
 pub mod OwnedCounts
 pub mod OwnedLists
 pub mod Owning
@@ -17,5 +19,6 @@ pub mod ReachedParents
 pub mod Readings
 pub mod RowsOfUsers
 pub mod Sizes
+pub mod SoundParts
 pub mod Standing
 pub mod WalkingParents

@@ -16,5 +16,6 @@ pub mod Parts
 pub mod Pending
 pub mod Readings
 pub mod Sound
+pub mod SoundObjects
 pub mod TreeParents
 pub mod Users

@@ -10,6 +10,8 @@ mod owners;
 mod parents;
 mod parts;
 mod reads;
+mod sound_objects;
+mod soundness;
 mod users;
 
 pub use images::{Image, ImageFault};
