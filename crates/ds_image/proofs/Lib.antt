@@ -1,6 +1,7 @@
 pub mod BadSectors
 pub mod CountedNames
 pub mod Decoded
+pub mod EntryNames
 pub mod Fronts
 pub mod LaidOver
 pub mod Listed

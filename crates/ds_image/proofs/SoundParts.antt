@@ -30,6 +30,13 @@ pub short_rows : (g : Geom) (look : Look) (p : Parts) → IsGeom g → Reads g l
 short_rows g look p is reads all kind =
     omega (arith, bits_length g look kind (maps_of p kind) (reads.maps kind) (all kind), most_items_of g kind is, few kind)
 
+-- what holds of each of the four kinds holds of all
+pub each_kind : (P : Kind → Type 0) → P Fd → P Sb → P Pb → P Fb → (kind : Kind) → P kind
+each_kind P fd sb pb fb Fd = fd
+each_kind P fd sb pb fb Sb = sb
+each_kind P fd sb pb fb Pb = pb
+each_kind P fd sb pb fb Fb = fb
+
 pub all-at : {X : Type 0} (P : X → Type 0) (xs : List X) → All P xs → (i : ℕ) (x : X) → slice_get xs i ≡ Some x → P x
 all-at P xs all i x at = subst P (get_or_from_slice_get xs i x x at) (all i x (slice_get_within xs i x at))
 

@@ -80,10 +80,16 @@ fn is_used(body: &Option<Body>) -> bool
 fn are_maps_spelled(parts: &PartsInMemory) -> bool
     ensures { IsTrue result ↔ ((kind : Kind) → AllSpelled (maps_of parts.now kind)) }
 {
-    are_spelled(parts.maps(Kind::Fd))
-        && are_spelled(parts.maps(Kind::Sb))
-        && are_spelled(parts.maps(Kind::Pb))
-        && are_spelled(parts.maps(Kind::Fb))
+    if !are_spelled(parts.maps(Kind::Fd)) {
+        return false;
+    }
+    if !are_spelled(parts.maps(Kind::Sb)) {
+        return false;
+    }
+    if !are_spelled(parts.maps(Kind::Pb)) {
+        return false;
+    }
+    are_spelled(parts.maps(Kind::Fb))
 }
 
 /// Whether every sector spells a part.
