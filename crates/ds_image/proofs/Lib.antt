@@ -1,9 +1,12 @@
 pub mod BadSectors
 pub mod CountedNames
 pub mod Decoded
+pub mod DirNodes
 pub mod EntryNames
 pub mod Fronts
+pub mod ItemCounts
 pub mod LaidOver
+pub mod ListParents
 pub mod Listed
 pub mod ListedItems
 pub mod MarkedLists
@@ -18,8 +21,11 @@ pub mod PartsRead
 pub mod Places
 pub mod ReachedParents
 pub mod Readings
+pub mod RootedTrees
 pub mod RowsOfUsers
 pub mod Sizes
 pub mod SoundParts
 pub mod Standing
+pub mod TreeParts
+pub mod TreesThatStand
 pub mod WalkingParents

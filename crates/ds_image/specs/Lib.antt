@@ -2,6 +2,7 @@ pub mod BadSectors
 pub mod Guards
 pub mod ImageValues
 pub mod KnownUsers
+pub mod ListParents
 pub mod Listings
 pub mod Logical
 pub mod Looks
@@ -15,6 +16,7 @@ pub mod Parents
 pub mod Parts
 pub mod Pending
 pub mod Readings
+pub mod Rooted
 pub mod Sound
 pub mod SoundObjects
 pub mod TreeParents
