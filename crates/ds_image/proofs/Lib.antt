@@ -19,6 +19,7 @@ pub mod OwnedLists
 pub mod Owning
 pub mod PartsRead
 pub mod Places
+pub mod ReachedObjects
 pub mod ReachedParents
 pub mod Readings
 pub mod RootedTrees

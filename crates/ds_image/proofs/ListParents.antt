@@ -1,8 +1,8 @@
 -- Parents put down list after list, and those of a tree.
-use Rattle.std.proofs.Common.{◌≡◌, ◌≢◌, ℕ, suc, ◌+◌, ◌<◌, ◌≤◌, ◌⊎◌, List, [], ◌∷◌, ◌++◌, length, take, get_or, set, map, Bool, false, Option, None, Some, slice_get, refl, sym, ap, ◌∙◌, subst, inl, inr, arith}
+use Rattle.std.proofs.Common.{◌≡◌, ◌≢◌, ℕ, suc, ◌+◌, ◌<◌, ◌≤◌, ◌⊎◌, List, [], ◌∷◌, ◌++◌, length, take, drop, get_or, set, map, Bool, false, Option, None, Some, slice_get, refl, sym, ap, ◌∙◌, subst, inl, inr, arith}
 use Rattle.std.specs.Prelude.{replicate}
 use Rattle.std.proofs.lemmas.Bool.{cases_eq, cases_lt}
-use Rattle.std.proofs.lemmas.List.{take_more, take_all, length-set, get_or-set_same, get_or-set_other, get_or-replicate, get_or_past, length-replicate, length-map, set_past, length-take-le}
+use Rattle.std.proofs.lemmas.List.{append-nil, drop_all, take_more, take_all, length-set, get_or-set_same, get_or-set_other, get_or-replicate, get_or_past, length-replicate, length-map, set_past, length-take-le}
 use Rattle.ds_tree.specs.WellFormed.{Names}
 use Rattle.ds_dir.specs.declared.sub_block.Entry.{Entry}
 use Rattle.ds_image.specs.Listings.{named_by, lists_by}
@@ -131,3 +131,8 @@ parents-in p n parents sound owns all count are = record {
       ] in
       are.only dir at.0 o (omega (arith, dir_there, all)) at.1.3 (omega (arith, there, count));
 }
+
+-- a list that is written in the place of one as long
+pub written-all : {X : Type 0} (n : ℕ) (new items : List X) → n ≡ length items → length new ≡ length items → take n (new ++ drop (length new) items) ≡ new
+written-all n new items len same =
+    ap (λ rest. take n (new ++ rest)) (drop_all (length new) items (omega (arith, same))) ∙ ap (take n) (append-nil new) ∙ take_all n new (omega (arith, len, same))

@@ -36,6 +36,9 @@ root_bit (b ∷ bits) = refl
 pub named_bit : (p : Parts) (o : ℕ) → o ≢ 0 → bit (named_bits p) o ≡ is_used (part_at p.bodies o)
 named_bit p o other = get_or-set_other (map is_used p.bodies) 0 o false false other ∙ used_bit p.bodies o
 
+pub named-count : (p : Parts) → length (named_bits p) ≡ length p.bodies
+named-count p = length-set (map is_used p.bodies) 0 false ∙ length-map p.bodies is_used
+
 -- the object of an entry is in use
 right-used : (p : Parts) (e : Entry) → IsNamedRight p e → is_used (part_at p.bodies e.key.object) ≡ true
 right-used p e right = ap is_used right.there ∙ ap (λ (k : Option NodeKind). is_some k) right.kind

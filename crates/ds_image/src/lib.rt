@@ -2,6 +2,7 @@
 #![tactic(auto)]
 
 mod bad_sectors;
+mod building;
 mod images;
 mod listings;
 mod marks;
@@ -10,6 +11,7 @@ mod owners;
 mod parents;
 mod parts;
 mod reads;
+mod rooted;
 mod sound_objects;
 mod soundness;
 mod users;

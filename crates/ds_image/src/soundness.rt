@@ -68,7 +68,7 @@ pub(crate) fn used_of(alloc: Global, bodies: &[Option<Body>]) -> Result<Vec<bool
     Ok(used)
 }
 
-fn is_used(body: &Option<Body>) -> bool
+pub(crate) fn is_used(body: &Option<Body>) -> bool
     ensures { result ≡ is_used body.now }
 {
     match body {
