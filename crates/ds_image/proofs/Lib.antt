@@ -1,4 +1,5 @@
 pub mod BadSectors
+pub mod BuiltTrees
 pub mod CountedNames
 pub mod Decoded
 pub mod DirNodes
@@ -21,6 +22,7 @@ pub mod PartsRead
 pub mod Places
 pub mod ReachedObjects
 pub mod ReachedParents
+pub mod ReadTrees
 pub mod Readings
 pub mod RootedTrees
 pub mod RowsOfUsers

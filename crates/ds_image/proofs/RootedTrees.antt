@@ -110,6 +110,9 @@ pub root-from_tree : (g : Geom) (p : Parts) → IsTree g (tree_of p) → HasRoot
 root-from_tree g p tree =
     root-of p (part_at p.bodies 0) refl (ap is_dir (sym (node-is p 0)) ∙ tree.root_dir) (ap (λ (o : Object). o.birth) (sym (object-is p 0)) ∙ tree.root_birth)
 
+pub root-used : (p : Parts) → HasRoot p → is_used (part_at p.bodies 0) ≡ true
+root-used p has = ap is_used has.there ∙ ap (λ (k : Option NodeKind). is_some k) has.kind
+
 pub root-is_dir : (p : Parts) → HasRoot p → is_dir (node_at (tree_of p) 0) ≡ true
 root-is_dir p has = ap is_dir (node-is p 0) ∙ ap (λ body. is_dir (object_of p body).node) has.there ∙ ap (λ kind. is_dir (node_by p has.body kind)) has.kind
 

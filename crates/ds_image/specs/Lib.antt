@@ -15,6 +15,7 @@ pub mod ParentWalks
 pub mod Parents
 pub mod Parts
 pub mod Pending
+pub mod ReadTrees
 pub mod Readings
 pub mod Rooted
 pub mod Sound

@@ -24,9 +24,8 @@ pub(crate) fn tree_of(
     geom: &Geom,
     parts: &PartsInMemory,
 ) -> Result<Tree, NoMemory>
-    ghost look: { Look }
     requires geom { IsGeom geom.now }
-    requires reads { Reads geom.now look parts.now }
+    requires reads { (look : Look) × Reads geom.now look parts.now }
     requires sound { IsSound parts.now }
     requires tree { IsTree geom.now (tree_of parts.now) }
     ensures geom { IfOk result (λ t. t.geom ≡ geom.now) }

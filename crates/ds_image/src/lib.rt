@@ -14,10 +14,12 @@ mod reads;
 mod rooted;
 mod sound_objects;
 mod soundness;
+mod trees;
 mod users;
 
 pub use images::{Image, ImageFault};
 pub use marks::Marks;
 pub use name_counts::NameCounts;
 pub use parents::reached;
+pub use trees::read_tree;
 pub use users::Users;

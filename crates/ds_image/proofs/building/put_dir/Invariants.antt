@@ -9,5 +9,5 @@ abbrev pub invariant-loop-entry : goal.invariant-loop-entry
 invariant-loop-entry l = record {
   geom : l.builder.geom ≡ l.fn.builder.geom;
   tree : l.builder.tree ≡ with_object l.fn.builder.tree l.key.object
-      (record { birth = l.key.birth; node = Some (Dir (maps.from_entries (pairs (take l.entry-index l.entries.items))) l.rooms) });
+      (record { birth = l.key.birth; node = Some (Dir (maps.from_entries (pairs (take l.entry-index l.entry-items))) l.rooms) });
 }
