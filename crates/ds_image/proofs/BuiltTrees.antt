@@ -1,17 +1,16 @@
 -- A tree that is put together object by object, and a directory entry by entry.
-use Rattle.std.proofs.Common.{◌≡◌, ℕ, zero, suc, ◌+◌, ◌-◌, ◌<◌, ◌≤◌, true, false, List, [], ◌∷◌, ◌++◌, length, take, drop, map, get_or, set, Option, None, Some, slice_get, refl, sym, ap, ◌∙◌, subst, inl, inr, arith, append_assoc, length-append, length-drop, length-take-le}
+use Rattle.std.proofs.Common.{◌≡◌, ℕ, zero, suc, ◌+◌, ◌-◌, ◌<◌, ◌≤◌, List, [], ◌∷◌, ◌++◌, length, take, drop, map, get_or, set, Some, slice_get, sym, ap, ◌∙◌, inl, inr, arith, append_assoc, length-append, length-drop, length-take-le}
 use Rattle.std.specs.Prelude.{replicate}
 use Rattle.std.specs.Cmp.Lexicographic.{slice_cmp, nat_list_cmp_total}
 use Rattle.std.specs.FinMap as maps
 use Rattle.std.specs.Ordering.{nat_cmp}
-use Rattle.std.proofs.lemmas.Bool.{false≢true, cases_lt}
+use Rattle.std.proofs.lemmas.Bool.{cases_lt}
 use Rattle.std.proofs.lemmas.List.{append-nil, get_or-set_same, set-set, set_at, drop_more, map_more, length-map, get_or-append_right, get_or-drop, get_or_past, get_or-replicate, take_all, drop_all, length-replicate}
-use Rattle.std.proofs.lemmas.Option.{slice_get-get_or}
-use Rattle.ds_base.specs.Geometry.{IsGeom, items_of}
+use Rattle.ds_base.specs.Geometry.{items_of}
 use Rattle.ds_base.specs.declared.geometry.Geom.{Geom}
 use Rattle.ds_base.specs.declared.geometry.Kind.TheVariants.{Fd}
 use Rattle.ds_dir.specs.declared.sub_block.Entry.{Entry}
-use Rattle.ds_tree.specs.Nodes.{Entries, Node, Dir, Object, FileTree, unborn, object_at, node_at, with_object, with_node, fresh_tree}
+use Rattle.ds_tree.specs.Nodes.{Entries, Dir, Object, FileTree, unborn, object_at, node_at, with_object, with_node, fresh_tree}
 use Rattle.ds_tree.specs.Trees.{entries_of, rooms_of}
 use Rattle.ds_image.specs.Objects.{object_of, tree_of}
 use Rattle.ds_image.specs.Parts.{Parts}
@@ -21,7 +20,8 @@ use Rattle.ds_image.proofs.EntryNames.{pairs, find-new}
 abbrev dir_object : ℕ → Entries → ℕ → Object
 dir_object birth entries rooms = record { birth = birth; node = Some (Dir entries rooms) }
 
-trees-alike : (xs ys : List Object) → xs ≡ ys → (let t : FileTree = record { objects = xs } in t) ≡ (let u : FileTree = record { objects = ys } in u)
+trees-alike : (xs ys : List Object) → xs ≡ ys
+    → (let t : FileTree = record { objects = xs } in t) ≡ (let u : FileTree = record { objects = ys } in u)
 trees-alike xs ys e = λ i. record { objects = e i }
 
 here : (old t : FileTree) (n : ℕ) (o : Object) → n < length old.objects → t ≡ with_object old n o → object_at t n ≡ o
@@ -36,7 +36,8 @@ entries-more es n e apart at within is =
     ∙ maps.from_entries_push nat_list_cmp_total (maps.slice_cmp-IsAntisymmetric maps.nat_cmp-IsAntisymmetric) (pairs (take n es)) e.name e.key.object (find-new es apart n e at)
 
 -- a directory with one more entry, in the place of what stood there
-pub dir-more : (old t u : FileTree) (n birth rooms : ℕ) (m : Entries) (name : List ℕ) (x : ℕ) → n < length old.objects → t ≡ with_object old n (dir_object birth m rooms)
+pub dir-more : (old t u : FileTree) (n birth rooms : ℕ) (m : Entries) (name : List ℕ) (x : ℕ) → n < length old.objects
+    → t ≡ with_object old n (dir_object birth m rooms)
     → u ≡ with_node t n (Dir (maps.insert (entries_of (node_at t n)) name x) (rooms_of (node_at t n)))
     → u ≡ with_object old n (dir_object birth (maps.insert m name x) rooms)
 dir-more old t u n birth rooms m name x within is put =
@@ -45,12 +46,13 @@ dir-more old t u n birth rooms m name x within is put =
     ap (λ (o : Object). Dir (maps.insert (entries_of o.node) name x) (rooms_of o.node)) it in
     let birth_is : (object_at t n).birth ≡ birth = ap (λ (o : Object). o.birth) it in
     let object : (let o : Object = record { birth = (object_at t n).birth; node = Some (Dir (maps.insert (entries_of (node_at t n)) name x) (rooms_of (node_at t n))) } in o)
-        ≡ dir_object birth (maps.insert m name x) rooms = λ i. record { birth = birth_is i; node = Some (node i) } in
+    ≡ dir_object birth (maps.insert m name x) rooms = λ i. record { birth = birth_is i; node = Some (node i) } in
     put ∙ ap (with_object t n) object ∙ trees-alike (set t.objects n (dir_object birth (maps.insert m name x) rooms)) (set old.objects n (dir_object birth (maps.insert m name x) rooms))
     (ap (λ (v : FileTree). set v.objects n (dir_object birth (maps.insert m name x) rooms)) is ∙ set-set old.objects n (dir_object birth m rooms) (dir_object birth (maps.insert m name x) rooms))
 
 -- the tree is a directory where it was put
-pub dir-there : (old t : FileTree) (n birth rooms : ℕ) (m : Entries) → n < length old.objects → t ≡ with_object old n (dir_object birth m rooms) → node_at t n ≡ Some (Dir m rooms)
+pub dir-there : (old t : FileTree) (n birth rooms : ℕ) (m : Entries) → n < length old.objects
+    → t ≡ with_object old n (dir_object birth m rooms) → node_at t n ≡ Some (Dir m rooms)
 dir-there old t n birth rooms m within is = ap (λ (o : Object). o.node) (here old t n (dir_object birth m rooms) within is)
 
 -- objects put one after another in the place of others
@@ -76,7 +78,8 @@ module _ {B : Type 0} (f : B → Object) (bodies : List B) (fresh : List Object)
       ∙ sym (append_assoc (map f (take n bodies)) (o ∷ []) (drop (n + 1) fresh))
       ∙ ap (λ l. l ++ drop (n + 1) fresh) (sym (map_more f bodies n d within))
 
-pub objects-all : {B : Type 0} (f : B → Object) (bodies : List B) (fresh : List Object) (n : ℕ) (now : List Object) → length bodies ≤ n → length bodies ≡ length fresh
+pub objects-all : {B : Type 0} (f : B → Object) (bodies : List B) (fresh : List Object) (n : ℕ) (now : List Object) → length bodies ≤ n
+    → length bodies ≡ length fresh
     → now ≡ map f (take n bodies) ++ drop n fresh → now ≡ map f bodies
 objects-all f bodies fresh n now past count so_far =
     so_far ∙ ap (λ l. map f (take n bodies) ++ l) (drop_all n fresh (omega (arith, past, count))) ∙ append-nil (map f (take n bodies)) ∙ ap (map f) (take_all n bodies past)

@@ -1,14 +1,12 @@
 -- Entries of a directory by name.
-use Rattle.std.proofs.Common.{◌≡◌, ℕ, zero, suc, ◌+◌, ◌<◌, ◌≤◌, Bool, true, false, cond, List, [], ◌∷◌, ◌++◌, length, take, map, get_or, Option, None, Some, slice_get, refl, sym, ap, ◌∙◌, subst, inl, inr, arith}
+use Rattle.std.proofs.Common.{◌≡◌, ℕ, zero, suc, ◌<◌, true, false, cond, List, [], ◌∷◌, length, take, map, get_or, Option, None, Some, slice_get, refl, sym, ap, ◌∙◌, inl, inr, arith}
 use Rattle.std.specs.Prelude.{bytes_eq}
 use Rattle.std.specs.Cmp.Lexicographic.{slice_cmp, nat_list_eq_equiv, nat_list_cmp_total}
 use Rattle.std.specs.FinMap as maps
-use Rattle.std.specs.List.{AllByRecursion, filter_map}
 use Rattle.std.specs.Ordering.{nat_cmp, is_eq}
 use Rattle.std.proofs.lemmas.Bool.{false≢true, cases_Bool, cases_lt}
 use Rattle.std.proofs.lemmas.List.{get_or-map, length-map, get_or-take, length-take-le}
-use Rattle.std.proofs.lemmas.List.Elements.{All-from_recursion}
-use Rattle.std.proofs.lemmas.Map.Keys.{IsDistinct-head, IsDistinct-tail, apart_from_distinct}
+use Rattle.std.proofs.lemmas.Map.Keys.{IsDistinct-tail, apart_from_distinct}
 use Rattle.std.proofs.lemmas.Map.Text.{is_eq-slice_cmp}
 use Rattle.std.proofs.lemmas.Option.{slice_get_within, get_or_from_slice_get, slice_get-get_or}
 use Rattle.std.proofs.lemmas.Slice.Eq.{bytes_eq-Decides}
@@ -26,7 +24,8 @@ same_name : (q a : List ℕ) → is_eq (slice_cmp nat_cmp q a) ≡ true → q �
 same_name q a same = (bytes_eq-Decides q a).0 (sym (is_eq-slice_cmp q a) ∙ same)
 
 -- two entries of one name are one
-pub apart-index : (es : List Entry) → AreNamesApart es → (i j : ℕ) (e f : Entry) → slice_get es i ≡ Some e → slice_get es j ≡ Some f → e.name ≡ f.name → i ≡ j
+pub apart-index : (es : List Entry) → AreNamesApart es → (i j : ℕ) (e f : Entry) → slice_get es i ≡ Some e → slice_get es j ≡ Some f
+    → e.name ≡ f.name → i ≡ j
 apart-index es apart i j e f at at' same = elim (cases_lt i j) [
   | inl below ↦ absurd (differ i j e f at at' same below)
   | inr past ↦ elim (cases_lt j i) [
@@ -61,7 +60,8 @@ find-some (a ∷ es) q x found = elim (cases_Bool (is_eq (slice_cmp nat_cmp q a.
 ]
 
 -- an entry is found by its name
-pub find-at : (es : List Entry) → AreNamesApart es → (i : ℕ) (e : Entry) → slice_get es i ≡ Some e → maps.find (slice_cmp nat_cmp) e.name (pairs es) ≡ Some e.key.object
+pub find-at : (es : List Entry) → AreNamesApart es → (i : ℕ) (e : Entry) → slice_get es i ≡ Some e
+    → maps.find (slice_cmp nat_cmp) e.name (pairs es) ≡ Some e.key.object
 find-at [] apart i e at = absurd (cc)
 find-at (a ∷ es) apart zero e at =
     let same : a ≡ e = cc in
@@ -77,7 +77,8 @@ find-at (a ∷ es) apart (suc i) e at =
     ∙ find-at es (IsDistinct-tail bytes_eq a.name (map (λ (y : Entry). y.name) es) apart) i e at
 
 -- the name of an entry isn't found among the entries before it
-pub find-new : (es : List Entry) → AreNamesApart es → (n : ℕ) (e : Entry) → slice_get es n ≡ Some e → maps.find (slice_cmp nat_cmp) e.name (pairs (take n es)) ≡ None
+pub find-new : (es : List Entry) → AreNamesApart es → (n : ℕ) (e : Entry) → slice_get es n ≡ Some e
+    → maps.find (slice_cmp nat_cmp) e.name (pairs (take n es)) ≡ None
 find-new es apart n e at = by (maps.find (slice_cmp nat_cmp) e.name (pairs (take n es))) refl
   where
     by : (r : Option ℕ) → maps.find (slice_cmp nat_cmp) e.name (pairs (take n es)) ≡ r → r ≡ None
@@ -92,5 +93,6 @@ find-new es apart n e at = by (maps.find (slice_cmp nat_cmp) e.name (pairs (take
         absurd (omega (arith, same, before))
 
 -- entries as a map
-pub get-entries : (es : List Entry) (q : List ℕ) → maps.get (maps.from_entries {R = slice_cmp nat_cmp} (pairs es)) q ≡ maps.find (slice_cmp nat_cmp) q (pairs es)
+pub get-entries : (es : List Entry) (q : List ℕ)
+    → maps.get (maps.from_entries {R = slice_cmp nat_cmp} (pairs es)) q ≡ maps.find (slice_cmp nat_cmp) q (pairs es)
 get-entries es q = maps.get-from_entries nat_list_cmp_total (pairs es) q

@@ -1,10 +1,9 @@
 -- Parents put down list after list, and those of a tree.
-use Rattle.std.proofs.Common.{◌≡◌, ◌≢◌, ℕ, suc, ◌+◌, ◌<◌, ◌≤◌, ◌⊎◌, List, [], ◌∷◌, ◌++◌, length, take, drop, get_or, set, map, Bool, false, Option, None, Some, slice_get, refl, sym, ap, ◌∙◌, subst, inl, inr, arith}
+use Rattle.std.proofs.Common.{◌≡◌, ◌≢◌, ℕ, ◌+◌, ◌<◌, ◌≤◌, ◌⊎◌, List, [], ◌∷◌, ◌++◌, length, take, drop, get_or, set, map, Bool, false, Option, None, Some, slice_get, refl, sym, ap, ◌∙◌, subst, inl, inr, arith}
 use Rattle.std.specs.Prelude.{replicate}
 use Rattle.std.proofs.lemmas.Bool.{cases_eq, cases_lt}
-use Rattle.std.proofs.lemmas.List.{append-nil, drop_all, take_more, take_all, length-set, get_or-set_same, get_or-set_other, get_or-replicate, get_or_past, length-replicate, length-map, set_past, length-take-le}
+use Rattle.std.proofs.lemmas.List.{append-nil, drop_all, take_more, take_all, length-set, get_or-set_same, get_or-set_other, get_or-replicate, get_or_past, length-replicate, length-map, set_past}
 use Rattle.ds_tree.specs.WellFormed.{Names}
-use Rattle.ds_dir.specs.declared.sub_block.Entry.{Entry}
 use Rattle.ds_image.specs.Listings.{named_by, lists_by}
 use Rattle.ds_image.specs.declared.listings.Listed.TheVariants as listed
 use Rattle.ds_image.specs.ListParents.{SetsParents, AreParentsOf}
@@ -13,7 +12,7 @@ use Rattle.ds_image.specs.Owns.{Owns, IsAt, list_of}
 use Rattle.ds_image.specs.Parents.{parent_of}
 use Rattle.ds_image.specs.Parts.{Parts}
 use Rattle.ds_image.specs.Rooted.{named_bits}
-use Rattle.ds_image.specs.Sound.{IsSound, rooms_used_by}
+use Rattle.ds_image.specs.Sound.{IsSound}
 use Rattle.ds_image.specs.TreeParents.{AreParentsIn}
 use Rattle.ds_image.proofs.Places.{at-append, at-append_left, at-append_right, at-single, marked-within}
 use Rattle.ds_image.proofs.TreeParts.{entry-from_list, list-from_name, name-from_entry}
@@ -81,7 +80,8 @@ module _ (old : List (Option ℕ)) (named : List ℕ) (dir n x : ℕ) (new : Lis
   pub sets-past : length new ≤ x → SetsParents old (take (n + 1) named) dir new
   sets-past past = subst (SetsParents old (take (n + 1) named) dir) (set_past new x (Some dir) past) sets-more
 
-pub sets-all : (old : List (Option ℕ)) (named : List ℕ) (dir n : ℕ) (new : List (Option ℕ)) → length named ≤ n → SetsParents old (take n named) dir new → SetsParents old named dir new
+pub sets-all : (old : List (Option ℕ)) (named : List ℕ) (dir n : ℕ) (new : List (Option ℕ)) → length named ≤ n
+    → SetsParents old (take n named) dir new → SetsParents old named dir new
 sets-all old named dir n new past sets = subst (λ l. SetsParents old l dir new) (take_all n named past) sets
 
 -- no directory has named anything
@@ -98,7 +98,8 @@ parents-none lists n = record {
     ]
 
 -- one more directory
-pub parents-more : (lists : List (List ℕ)) (bits : List Bool) (n : ℕ) (old new : List (Option ℕ)) → Owns lists bits → AreParentsOf lists n old → SetsParents old (list_of lists n) n new
+pub parents-more : (lists : List (List ℕ)) (bits : List Bool) (n : ℕ) (old new : List (Option ℕ)) → Owns lists bits
+    → AreParentsOf lists n old → SetsParents old (list_of lists n) n new
     → AreParentsOf lists (n + 1) new
 parents-more lists bits n old new owns are sets = record {
   named = λ o dir is. elim (sets.from o dir is) [
@@ -112,7 +113,8 @@ parents-more lists bits n old new owns are sets = record {
 }
 
 -- the parents are those of the tree
-pub parents-in : (p : Parts) (n : ℕ) (parents : List (Option ℕ)) → IsSound p → Owns (lists_by p listed.Names) (named_bits p) → length p.bodies ≤ n → length parents ≡ length p.bodies
+pub parents-in : (p : Parts) (n : ℕ) (parents : List (Option ℕ)) → IsSound p → Owns (lists_by p listed.Names) (named_bits p)
+    → length p.bodies ≤ n → length parents ≡ length p.bodies
     → AreParentsOf (lists_by p listed.Names) n parents → AreParentsIn (tree_of p) parents
 parents-in p n parents sound owns all count are = record {
   named = λ o dir other is.
@@ -133,6 +135,7 @@ parents-in p n parents sound owns all count are = record {
 }
 
 -- a list that is written in the place of one as long
-pub written-all : {X : Type 0} (n : ℕ) (new items : List X) → n ≡ length items → length new ≡ length items → take n (new ++ drop (length new) items) ≡ new
+pub written-all : {X : Type 0} (n : ℕ) (new items : List X) → n ≡ length items → length new ≡ length items
+    → take n (new ++ drop (length new) items) ≡ new
 written-all n new items len same =
     ap (λ rest. take n (new ++ rest)) (drop_all (length new) items (omega (arith, same))) ∙ ap (take n) (append-nil new) ∙ take_all n new (omega (arith, len, same))

@@ -1,11 +1,11 @@
 -- Names that differ, and a set of those that were met.
 use Rattle.std.proofs.Common.{◌≡◌, ℕ, ◌+◌, ◌<◌, Bool, true, false, cond, ◌||◌, List, [], ◌∷◌, ◌++◌, length, take, map, get_or, refl, sym, ap, ◌∙◌, subst, suc, inl, inr, arith}
-use Rattle.std.specs.Prelude.{bytes_eq, ◌↔◌}
+use Rattle.std.specs.Prelude.{bytes_eq}
 use Rattle.std.specs.Cmp.Lexicographic.{slice_cmp, nat_list_eq_equiv}
 use Rattle.std.specs.List.{IsDistinct, list_any}
 use Rattle.std.specs.Ordering.{nat_cmp, is_eq}
 use Rattle.std.proofs.lemmas.Bool.{false≢true, cases_Bool}
-use Rattle.std.proofs.lemmas.List.{map_more, get_or_append_left, get_or_push, length-append, take_all, get_or-map, get_or-take, length-take-le, length-map}
+use Rattle.std.proofs.lemmas.List.{map_more, get_or-map, get_or-take, length-take-le, length-map}
 use Rattle.std.proofs.lemmas.List.Folds.{list_any-append}
 use Rattle.std.proofs.lemmas.Map.Keys.{IsDistinct-push, apart_from_distinct}
 use Rattle.std.proofs.lemmas.Map.Text.{is_eq-slice_cmp}
@@ -30,11 +30,13 @@ or_false : (b : Bool) → (b || false) ≡ b
 or_false true = refl
 or_false false = refl
 
-names-more : (entries : List Entry) (n : ℕ) (e : Entry) → n < length entries → e ≡ get_or entries n e → names_of (take (n + 1) entries) ≡ names_of (take n entries) ++ e.name ∷ []
+names-more : (entries : List Entry) (n : ℕ) (e : Entry) → n < length entries → e ≡ get_or entries n e
+    → names_of (take (n + 1) entries) ≡ names_of (take n entries) ++ e.name ∷ []
 names-more entries n e within is = map_more (λ (x : Entry). x.name) entries n e within ∙ ap (λ (x : Entry). names_of (take n entries) ++ x.name ∷ []) (sym is)
 
 -- a new name differs from the others
-pub apart-more : (entries : List Entry) (n : ℕ) (e : Entry) → n < length entries → e ≡ get_or entries n e → list_any (bytes_eq e.name) (names_of (take n entries)) ≡ false
+pub apart-more : (entries : List Entry) (n : ℕ) (e : Entry) → n < length entries → e ≡ get_or entries n e
+    → list_any (bytes_eq e.name) (names_of (take n entries)) ≡ false
     → AreNamesApart (take n entries) → AreNamesApart (take (n + 1) entries)
 apart-more entries n e within is new apart =
     subst (IsDistinct bytes_eq) (sym (names-more entries n e within is)) (IsDistinct-push nat_list_eq_equiv (names_of (take n entries)) e.name apart new)
@@ -53,7 +55,8 @@ known-more entries n e old new within is known updated q =
     ∙ sym (list_any-append (bytes_eq q) (names_of (take n entries)) (e.name ∷ []))
     ∙ ap (list_any (bytes_eq q)) (sym (names-more entries n e within is))
 
-any-place : (test : List ℕ → Bool) (xs : List (List ℕ)) → list_any test xs ≡ true → (j : ℕ) × (j < length xs) × (test (get_or xs j []) ≡ true)
+any-place : (test : List ℕ → Bool) (xs : List (List ℕ)) → list_any test xs ≡ true
+    → (j : ℕ) × (j < length xs) × (test (get_or xs j []) ≡ true)
 any-place test [] found = absurd (false≢true found)
 any-place test (x ∷ xs) found = elim (cases_Bool (test x)) [
   | inl is ↦ (0, omega arith, is)
@@ -61,7 +64,8 @@ any-place test (x ∷ xs) found = elim (cases_Bool (test x)) [
 ]
 
 -- a name that is known stands twice
-pub apart-not : (entries : List Entry) (n : ℕ) (e : Entry) → n < length entries → e ≡ get_or entries n e → list_any (bytes_eq e.name) (names_of (take n entries)) ≡ true → ¬ AreNamesApart entries
+pub apart-not : (entries : List Entry) (n : ℕ) (e : Entry) → n < length entries → e ≡ get_or entries n e
+    → list_any (bytes_eq e.name) (names_of (take n entries)) ≡ true → ¬ AreNamesApart entries
 apart-not entries n e within is known apart =
     let at = any-place (bytes_eq e.name) (names_of (take n entries)) known in
     let before : at.0 < n = omega (arith, at.1, length-map (take n entries) (λ (x : Entry). x.name), length-take-le n entries (omega arith)) in

@@ -1,7 +1,7 @@
 -- What a descriptor says: its tail, and what stands past the last descriptor.
-use Rattle.std.proofs.Common.{◌≡◌, ℕ, ◌-◌, ◌<◌, ◌≤◌, List, [], take, drop, length, min, get_or, Option, None, Some, refl, sym, ap, ◌∙◌, subst, inl, inr, arith}
+use Rattle.std.proofs.Common.{◌≡◌, ℕ, ◌-◌, ◌<◌, ◌≤◌, List, take, drop, length, min, Option, None, Some, refl, sym, ap, ◌∙◌, subst, inl, inr, arith}
 use Rattle.std.specs.List.{flat_map}
-use Rattle.std.specs.Prelude.{IsSome, All}
+use Rattle.std.specs.Prelude.{IsSome}
 use Rattle.std.proofs.lemmas.Bool.{cases_lt}
 use Rattle.std.proofs.lemmas.List.{take_rest, drop_min, get_or_past}
 use Rattle.std.proofs.lemmas.List.Elements.{All-nil}
@@ -16,7 +16,8 @@ pub rest-from_min : {X : Type 0} (xs : List X) (at n : ℕ) → at ≡ min n (le
 rest-from_min xs at n is = take_rest xs at ∙ ap (λ k. drop k xs) is ∙ drop_min n xs
 
 -- a file's tail is what its pointer blocks have past its count
-pub tail-is : (p : Parts) (body : Option Body) → tail_of p body ≡ drop (count_in body) (flat_map (λ n. addresses_in (part_at p.ptrs n)) (ptrs_of body))
+pub tail-is : (p : Parts) (body : Option Body)
+    → tail_of p body ≡ drop (count_in body) (flat_map (λ n. addresses_in (part_at p.ptrs n)) (ptrs_of body))
 tail-is p None = refl
 tail-is p (Some b) = refl
 
@@ -31,7 +32,8 @@ nothing-sound p = record {
 }
 
 -- what holds of each descriptor, and past the last, holds by every number
-pub all-sound : (p : Parts) (n : ℕ) → length p.bodies ≤ n → ((o : ℕ) → o < n → IsSoundObject p (part_at p.bodies o)) → (o : ℕ) → IsSoundObject p (part_at p.bodies o)
+pub all-sound : (p : Parts) (n : ℕ) → length p.bodies ≤ n → ((o : ℕ) → o < n → IsSoundObject p (part_at p.bodies o)) → (o : ℕ)
+    → IsSoundObject p (part_at p.bodies o)
 all-sound p n past each o = elim (cases_lt o n) [
   | inl below ↦ each o below
   | inr above ↦ subst (IsSoundObject p) (sym (get_or_past p.bodies o None (omega (arith)))) (nothing-sound p)

@@ -1,14 +1,14 @@
 -- A tree that keeps the rules is one whose root is there, and whose objects are each named once and reached.
-use Rattle.std.proofs.Common.{◌≡◌, ◌≢◌, ℕ, zero, suc, ◌+◌, ◌<◌, ◌≤◌, Bool, true, false, List, [], ◌∷◌, length, map, Option, None, Some, slice_get, set, get_or, refl, sym, ap, ◌∙◌, subst, inl, inr, arith}
-use Rattle.std.specs.Prelude.{IsSome, is_some}
+use Rattle.std.proofs.Common.{◌≡◌, ◌≢◌, ℕ, Bool, true, false, List, [], ◌∷◌, length, map, Option, None, Some, slice_get, set, refl, sym, ap, ◌∙◌, subst, inl, inr, arith}
+use Rattle.std.specs.Prelude.{is_some}
 use Rattle.std.proofs.lemmas.Bool.{false≢true, cases_lt, cases_eq}
-use Rattle.std.proofs.lemmas.List.{get_or-set_same, get_or-set_other, get_or_past, get_or-map, length-map, length-set}
+use Rattle.std.proofs.lemmas.List.{get_or-set_other, get_or_past, get_or-map, length-map, length-set}
 use Rattle.ds_base.specs.declared.geometry.Geom.{Geom}
 use Rattle.ds_base.specs.declared.names.NodeKind.{NodeKind}
 use Rattle.ds_base.specs.declared.names.NodeKind.TheVariants as kinds
 use Rattle.ds_dir.specs.declared.sub_block.Entry.{Entry}
 use Rattle.ds_fd.specs.declared.body.Body.{Body}
-use Rattle.ds_tree.specs.Nodes.{Node, Object, node_at, birth_at}
+use Rattle.ds_tree.specs.Nodes.{Object, node_at, birth_at}
 use Rattle.ds_tree.specs.Steps.{is_dir}
 use Rattle.ds_tree.specs.WellFormed.{Names, AreNamedOnce, IsTree, Reached, root, entry}
 use Rattle.ds_image.specs.Listings.{lists_by}
@@ -19,7 +19,6 @@ use Rattle.ds_image.specs.Parts.{Parts, part_at}
 use Rattle.ds_image.specs.Rooted.{HasRoot, named_bits, IsRooted}
 use Rattle.ds_image.specs.Sound.{IsSound, rooms_used_by, IsNamedRight}
 use Rattle.ds_image.proofs.EntryNames.{apart-index}
-use Rattle.ds_image.proofs.Places.{marked-within}
 use Rattle.ds_image.proofs.TreeParts.{object-is, node-is, used-at, node-at, name-from_entry, entry-from_list, list-from_name}
 
 -- whether a descriptor's bit is set: that of each used one but the root
@@ -64,7 +63,8 @@ named-once p sound named = record {
       | inr other ↦ sym (named_bit p x other) ∙ marked
     ]
 
-    same_name : (dir dir' i j : ℕ) (e f : Entry) (name name' : List ℕ) → dir ≡ dir' → i ≡ j → slice_get (rooms_used_by p dir) i ≡ Some e → slice_get (rooms_used_by p dir') j ≡ Some f
+    same_name : (dir dir' i j : ℕ) (e f : Entry) (name name' : List ℕ) → dir ≡ dir' → i ≡ j → slice_get (rooms_used_by p dir) i ≡ Some e
+        → slice_get (rooms_used_by p dir') j ≡ Some f
         → e.name ≡ name → f.name ≡ name' → name ≡ name'
     same_name dir dir' i j e f name name' dirs places at at' is is' =
         let moved : slice_get (rooms_used_by p dir) i ≡ slice_get (rooms_used_by p dir') j = λ k. slice_get (rooms_used_by p (dirs k)) (places k) in
@@ -89,7 +89,8 @@ named-from_tree g p sound tree = record {
       listed_by x other (tree.reached x (node-at p x (sym (named_bit p x other) ∙ marked)));
 }
   where
-    named : (o i x : ℕ) → (e : (y : Entry) × (slice_get (rooms_used_by p o) i ≡ Some y) × (y.key.object ≡ x)) → Names (tree_of p) o e.0.name x
+    named : (o i x : ℕ) → (e : (y : Entry) × (slice_get (rooms_used_by p o) i ≡ Some y) × (y.key.object ≡ x))
+        → Names (tree_of p) o e.0.name x
     named o i x e = subst (Names (tree_of p) o e.0.name) e.2 (name-from_entry p sound o i e.0 e.1)
 
     listed_by : (x : ℕ) → x ≢ 0 → Reached (tree_of p) x → (o : ℕ) × ((i : ℕ) × IsAt (lists_by p listed.Names) o i x)
@@ -102,7 +103,8 @@ is_dir-by p b None is dir = absurd (false≢true dir)
 is_dir-by p b (Some kinds.Dir) is dir = is
 is_dir-by p b (Some kinds.File) is dir = absurd (false≢true dir)
 
-root-of : (p : Parts) (body : Option Body) → part_at p.bodies 0 ≡ body → is_dir (object_of p body).node ≡ true → (object_of p body).birth ≡ 1 → HasRoot p
+root-of : (p : Parts) (body : Option Body) → part_at p.bodies 0 ≡ body → is_dir (object_of p body).node ≡ true
+    → (object_of p body).birth ≡ 1 → HasRoot p
 root-of p None is dir birth = absurd (false≢true dir)
 root-of p (Some b) is dir birth = record { body = b; there = is; kind = is_dir-by p b b.kind refl dir; birth = birth }
 

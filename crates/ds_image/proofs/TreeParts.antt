@@ -1,5 +1,5 @@
 -- The tree that parts spell, object by object.
-use Rattle.std.proofs.Common.{◌≡◌, ℕ, ◌+◌, ◌*◌, ◌<◌, ◌≤◌, Bool, true, false, List, [], ◌∷◌, length, map, Option, None, Some, slice_get, refl, sym, ap, ◌∙◌, subst, inl, inr, arith}
+use Rattle.std.proofs.Common.{◌≡◌, ℕ, true, List, length, map, Option, None, Some, slice_get, refl, sym, ap, ◌∙◌, subst, inl, inr, arith}
 use Rattle.std.specs.Prelude.{IsSome, option_map}
 use Rattle.std.specs.FinMap as maps
 use Rattle.std.proofs.lemmas.Bool.{false≢true, cases_lt}
@@ -15,11 +15,11 @@ use Rattle.ds_tree.specs.Trees as trees
 use Rattle.ds_tree.specs.WellFormed.{Names}
 use Rattle.ds_image.specs.Listings.{named_by, lists_by}
 use Rattle.ds_image.specs.declared.listings.Listed.TheVariants as listed
-use Rattle.ds_image.specs.Objects.{subs_by, blocks_by, node_by, object_of, tree_of, subs_of, blocks_of, used_rooms, entries_of, is_used}
+use Rattle.ds_image.specs.Objects.{subs_by, blocks_by, node_by, object_of, tree_of, subs_of, blocks_of, entries_of, is_used}
 use Rattle.ds_image.specs.Owns.{IsAt, list_of}
 use Rattle.ds_image.specs.Parts.{Parts, part_at}
 use Rattle.ds_image.specs.Sound.{IsSound, rooms_used_by}
-use Rattle.ds_image.proofs.EntryNames.{pairs, find-some, find-at, get-entries, apart-index}
+use Rattle.ds_image.proofs.EntryNames.{find-some, find-at, get-entries}
 use Rattle.ds_image.proofs.SoundParts.{list-is}
 
 -- the object of each number, also past the last
@@ -93,7 +93,8 @@ entry-from_name p o name x names =
     find-some (rooms_used_by p o) name x
     (sym (get-entries (rooms_used_by p o) name) ∙ ap (λ (m : Entries). maps.get m name) (sym (entries-are p o)) ∙ names)
 
-pub name-from_entry : (p : Parts) → IsSound p → (o i : ℕ) (e : Entry) → slice_get (rooms_used_by p o) i ≡ Some e → Names (tree_of p) o e.name e.key.object
+pub name-from_entry : (p : Parts) → IsSound p → (o i : ℕ) (e : Entry) → slice_get (rooms_used_by p o) i ≡ Some e
+    → Names (tree_of p) o e.name e.key.object
 name-from_entry p sound o i e at =
     ap (λ (m : Entries). maps.get m e.name) (entries-are p o) ∙ get-entries (rooms_used_by p o) e.name ∙ find-at (rooms_used_by p o) (sound.names o) i e at
 
@@ -105,12 +106,14 @@ mapped : (r : Option Entry) (x : ℕ) → option_map (λ (e : Entry). e.key.obje
 mapped None x is = absurd (cc)
 mapped (Some e) x is = let object : e.key.object ≡ x = cc in (e, refl, object)
 
-pub entry-from_list : (p : Parts) (o i x : ℕ) → IsAt (lists_by p listed.Names) o i x → (e : Entry) × (slice_get (rooms_used_by p o) i ≡ Some e) × (e.key.object ≡ x)
+pub entry-from_list : (p : Parts) (o i x : ℕ) → IsAt (lists_by p listed.Names) o i x
+    → (e : Entry) × (slice_get (rooms_used_by p o) i ≡ Some e) × (e.key.object ≡ x)
 entry-from_list p o i x at =
     mapped (slice_get (rooms_used_by p o) i) x
     (sym (slice_get-map (λ (e : Entry). e.key.object) (rooms_used_by p o) i) ∙ ap (λ l. slice_get l i) (sym (named-list p o)) ∙ at)
 
-pub list-from_entry : (p : Parts) (o i x : ℕ) (e : Entry) → slice_get (rooms_used_by p o) i ≡ Some e → e.key.object ≡ x → IsAt (lists_by p listed.Names) o i x
+pub list-from_entry : (p : Parts) (o i x : ℕ) (e : Entry) → slice_get (rooms_used_by p o) i ≡ Some e → e.key.object ≡ x
+    → IsAt (lists_by p listed.Names) o i x
 list-from_entry p o i x e at is =
     ap (λ l. slice_get l i) (named-list p o) ∙ slice_get-map (λ (e : Entry). e.key.object) (rooms_used_by p o) i
     ∙ ap (option_map (λ (e : Entry). e.key.object)) at ∙ ap Some is

@@ -12,18 +12,14 @@ ghost use Rattle.ds_image.specs.SoundObjects.{AreNamesApart};
 ghost use Rattle.ds_tree.specs.Nodes.{Dir, node_at, with_object};
 ghost use Rattle.ds_tree.specs.WellFormed.{IsTree};
 
-use crate::listings::{blocks_of, entries_in, subs_of};
+use crate::listings::{blocks_of, copy_of_name, entries_in, subs_of};
 use crate::parts::PartsInMemory;
-use ds_base::{Geom, Key, Name, NoMemory, NodeKind, ObjNo};
+use ds_base::{Geom, Key, NoMemory, NodeKind, ObjNo};
 use ds_tree::{Tree, TreeBuilder};
 use std::alloc::Global;
 
 /// The tree that the parts of an image spell.
-pub(crate) fn tree_of(
-    alloc: Global,
-    geom: &Geom,
-    parts: &PartsInMemory,
-) -> Result<Tree, NoMemory>
+pub(crate) fn tree_of(alloc: Global, geom: &Geom, parts: &PartsInMemory) -> Result<Tree, NoMemory>
     requires geom { IsGeom geom.now }
     requires reads { (look : Look) × Reads geom.now look parts.now }
     requires sound { IsSound parts.now }
@@ -90,13 +86,7 @@ fn put_dir(
     builder.put_dir(key, rooms);
     let entries = entries_in(alloc, parts, subs)?;
     for entry in &entries {
-        builder.put_entry(key.object, copy_of(&entry.name)?, entry.key.object)?;
+        builder.put_entry(key.object, copy_of_name(&entry.name)?, entry.key.object)?;
     }
     Ok(())
-}
-
-fn copy_of(name: &Name) -> Result<Name, NoMemory>
-    ensures { IfOk result (λ copy. copy ≡ name.now) }
-{
-    name.clone().map_err(|_| NoMemory)
 }

@@ -7,7 +7,7 @@ ghost use Rattle.ds_image.specs.Parts.{part_at};
 ghost use Rattle.ds_image.specs.Listings.{named_by, listed_by};
 
 use crate::parts::PartsInMemory;
-use ds_base::{NoMemory, NodeKind};
+use ds_base::{Name, NoMemory, NodeKind};
 use ds_dir::Entry;
 use ds_fd::Body;
 use std::alloc::Global;
@@ -138,11 +138,7 @@ pub(crate) fn blocks_of(
 }
 
 /// The objects that a directory names; none of anything else.
-fn named_by(
-    alloc: Global,
-    parts: &PartsInMemory,
-    body: &Option<Body>,
-) -> Result<Vec<u32>, NoMemory>
+fn named_by(alloc: Global, parts: &PartsInMemory, body: &Option<Body>) -> Result<Vec<u32>, NoMemory>
     ensures { IfOk result (λ v. v.items ≡ named_by parts.now body.now) }
 {
     let entries = entries_in(alloc, parts, subs_of(body))?;
@@ -193,4 +189,10 @@ fn copy_of(entry: &Entry) -> Result<Entry, NoMemory>
     ensures { IfOk result (λ copy. copy ≡ entry.now) }
 {
     entry.clone().map_err(|_| NoMemory)
+}
+
+pub(crate) fn copy_of_name(name: &Name) -> Result<Name, NoMemory>
+    ensures { IfOk result (λ copy. copy ≡ name.now) }
+{
+    name.clone().map_err(|_| NoMemory)
 }

@@ -38,7 +38,8 @@ pub(crate) fn bits_in(alloc: Global, maps: &[Option<Bits>]) -> Result<Vec<bool>,
 {
     let mut bits = Vec::new(alloc);
     for map in maps {
-        bits.extend_from_slice(used_bits(map)).map_err(|_| NoMemory)?;
+        bits.extend_from_slice(used_bits(map))
+            .map_err(|_| NoMemory)?;
     }
     Ok(bits)
 }

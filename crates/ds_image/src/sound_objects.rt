@@ -4,9 +4,9 @@ ghost use Rattle.ds_image.specs.Parts.{part_at};
 ghost use Rattle.ds_image.specs.Sound.{IsNamedRight, AreZero};
 ghost use Rattle.ds_image.specs.SoundObjects.{AreNamesApart, count_in, IsSoundObject};
 
-use crate::listings::{entries_in, pointed_by, ptrs_of, subs_of};
+use crate::listings::{copy_of_name, entries_in, pointed_by, ptrs_of, subs_of};
 use crate::parts::PartsInMemory;
-use ds_base::{Name, NoMemory};
+use ds_base::NoMemory;
 use ds_dir::Entry;
 use ds_fd::Body;
 use std::alloc::Global;
@@ -116,16 +116,10 @@ fn are_names_apart(alloc: Global, entries: &[Entry]) -> Result<bool, NoMemory>
 {
     let mut names = BTreeSet::new(alloc);
     for entry in entries {
-        let name = copy_of(&entry.name)?;
+        let name = copy_of_name(&entry.name)?;
         if !names.insert(name).map_err(|_| NoMemory)? {
             return Ok(false);
         }
     }
     Ok(true)
-}
-
-fn copy_of(name: &Name) -> Result<Name, NoMemory>
-    ensures { IfOk result (λ copy. copy ≡ name.now) }
-{
-    name.clone().map_err(|_| NoMemory)
 }

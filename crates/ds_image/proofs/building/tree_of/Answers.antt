@@ -1,10 +1,8 @@
 -- One more object is put where it belongs, and all objects make the tree.
 use Rattle.std.proofs.Common.{◌≡◌, ℕ, ◌<◌, ◌≤◌, ◌++◌, List, Option, None, length, take, drop, map, inl, inr, sym, ap, ◌∙◌, subst, arith}
-use Rattle.std.specs.Prelude.{is_some}
 use Rattle.std.proofs.lemmas.Bool.{false≢true, cases_eq}
 use Rattle.ds_base.specs.Geometry.{IsGeom}
 use Rattle.ds_base.specs.declared.geometry.Geom.{Geom}
-use Rattle.ds_base.specs.declared.names.NodeKind.{NodeKind}
 use Rattle.ds_fd.specs.declared.body.Body.{Body}
 use Rattle.ds_tree.proofs.FreshTree.{fresh-is_tree}
 use Rattle.ds_tree.specs.Nodes.{FileTree, Object, fresh_tree}
@@ -55,7 +53,8 @@ loop-object-preserved c =
     }
 
 -- the objects of all descriptors make the tree
-all-put : (g : Geom) (look : Look) (p : Parts) (bodies : List (Option Body)) (n : ℕ) (t : FileTree) → IsGeom g → Reads g look p → bodies ≡ p.bodies → length bodies ≤ n
+all-put : (g : Geom) (look : Look) (p : Parts) (bodies : List (Option Body)) (n : ℕ) (t : FileTree) → IsGeom g → Reads g look p
+    → bodies ≡ p.bodies → length bodies ≤ n
     → t.objects ≡ map (object_of p) (take n p.bodies) ++ drop n (fresh_tree g).objects → t ≡ tree_of p
 all-put g look p bodies n t is reads same past so_far =
     let count : length p.bodies ≡ length (fresh_tree g).objects = reads.bodies.len ∙ sym (fresh-is_tree g is).count in

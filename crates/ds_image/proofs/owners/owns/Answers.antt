@@ -1,5 +1,5 @@
 -- A list that can't be marked has no owner of all its items; where all can, the marks say which bits are set.
-use Rattle.std.proofs.Common.{◌≡◌, ◌++◌, ◌∷◌, [], false, length, take, map, List, Bool, sym, ap, subst, ◌∙◌, arith}
+use Rattle.std.proofs.Common.{◌≡◌, [], false, length, map, sym, ap, subst, ◌∙◌}
 use Rattle.std.specs.Prelude.{replicate}
 use Rattle.std.proofs.lemmas.Bool.{false≢true}
 use Rattle.std.proofs.lemmas.List.{length-replicate}
@@ -39,6 +39,7 @@ pub returns : goal.returns
 returns c =
     let f = listed_by c.args.parts.now c.args.what in
     let all = owned-all f c.bodies-bodies.result.now c.loop-body.body-index c.loop-body.marks c.args.bits.now c.are.result c.loop-body-test.false
-    c.loop-body.invariant.owns c.loop-body.invariant.count c.are.ensures in
-    (λ yes. subst (λ bodies. Owns (map f bodies) c.args.bits.now) c.bodies-bodies.ensures (all.0 yes),
-    λ owns. all.1 (subst (λ bodies. Owns (map f bodies) c.args.bits.now) (sym c.bodies-bodies.ensures) owns))
+    c.loop-body.invariant.owns c.loop-body.invariant.count c.are.ensures in (
+      λ yes. subst (λ bodies. Owns (map f bodies) c.args.bits.now) c.bodies-bodies.ensures (all.0 yes),
+      λ owns. all.1 (subst (λ bodies. Owns (map f bodies) c.args.bits.now) (sym c.bodies-bodies.ensures) owns),
+    )

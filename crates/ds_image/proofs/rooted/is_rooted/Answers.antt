@@ -1,7 +1,6 @@
 -- The descriptors in use are reached exactly where their parents lead to the root.
-use Rattle.std.proofs.Common.{◌≡◌, ℕ, ◌↔◌, true, false, slice_index_or, Bool, List, length, ◌<◌, ◌^◌, ap, sym, ◌∙◌, subst, arith}
+use Rattle.std.proofs.Common.{◌≡◌, ℕ, ◌↔◌, true, false, slice_index_or, Bool, List, length, ap, ◌∙◌, subst, arith}
 use Rattle.std.specs.Prelude.{Option}
-use Rattle.std.proofs.lemmas.List.{length-map, length-set}
 use Rattle.ds_base.specs.declared.geometry.Kind.TheVariants as kinds
 use Rattle.ds_fd.specs.declared.body.Body.{Body}
 use Rattle.ds_layout.proofs.Bounds.{most_items_of}

@@ -1,5 +1,5 @@
 -- One more directory's objects have their parent.
-use Rattle.std.proofs.Common.{◌≡◌, ℕ, ◌+◌, ◌++◌, List, Option, None, length, take, drop, refl, ap, sym, ◌∙◌, subst, arith}
+use Rattle.std.proofs.Common.{◌≡◌, ◌+◌, ◌++◌, None, length, take, drop, refl, ap, sym, ◌∙◌, subst, arith}
 use Rattle.std.proofs.lemmas.List.{get_or_default}
 use Rattle.ds_base.specs.declared.geometry.Kind.TheVariants as kinds
 use Rattle.ds_layout.proofs.Bounds.{most_items_of}

@@ -11,7 +11,7 @@ loop-object-preserved c =
     let x = get_or c.args.named.now n 0 in
     let Sets : List (Option ℕ) → Type 0 = SetsParents c.args.parents.now (take (n + 1) c.args.named.now) c.args.dir in
     elim c.if-at-parents.branch [
-      then-at-parents w ↦ subst Sets (sym w.parents-is)
+      | then-at-parents w ↦ subst Sets (sym w.parents-is)
           (sets-more c.args.parents.now c.args.named.now c.args.dir n x c.loop-object.parents c.loop-object-test.true refl c.loop-object.invariant)
       | else-at-parents w ↦ subst Sets (sym w.parents-is)
           (sets-past c.args.parents.now c.args.named.now c.args.dir n x c.loop-object.parents c.loop-object-test.true refl c.loop-object.invariant w.if-at-parents.false)

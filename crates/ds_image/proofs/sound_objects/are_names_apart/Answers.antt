@@ -1,5 +1,5 @@
 -- A name is new where the set didn't have it.
-use Rattle.std.proofs.Common.{◌≡◌, cond, subst, Bool, true, false, not, List, ℕ, take, map, refl, sym, ap, ◌∙◌, rules}
+use Rattle.std.proofs.Common.{◌≡◌, cond, subst, Bool, true, false, not, take, map, refl, sym, ap, ◌∙◌, rules}
 use Rattle.std.specs.Prelude.{bytes_eq}
 use Rattle.std.specs.BTreeMap.{is_at}
 use Rattle.std.specs.BTreeSet.{contains, Updates}

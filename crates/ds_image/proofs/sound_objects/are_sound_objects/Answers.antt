@@ -1,4 +1,4 @@
-use Rattle.std.proofs.Common.{◌∙◌, refl, sym, ap, subst, length, ◌≤◌}
+use Rattle.std.proofs.Common.{refl, subst, length, ◌≤◌}
 use Rattle.ds_image.specs.Parts.{part_at}
 use Rattle.ds_image.specs.SoundObjects.{IsSoundObject}
 use Rattle.ds_image.proofs.ObjectSound.{all-sound}

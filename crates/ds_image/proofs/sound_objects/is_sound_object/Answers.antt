@@ -1,4 +1,4 @@
-use Rattle.std.proofs.Common.{◌≡◌, Bool, true, false, List, drop, ◌∙◌, sym, ap, subst}
+use Rattle.std.proofs.Common.{◌≡◌, drop, ◌∙◌, sym, ap, subst}
 use Rattle.std.specs.Prelude.{IsSome, IsTrue, All, ◌↔◌}
 use Rattle.std.specs.List.{flat_map}
 use Rattle.std.proofs.lemmas.Bool.{false≢true}
@@ -37,4 +37,5 @@ returns c =
         entries = subst (All (IsNamedRight p)) (c.deref-2.ensures.value ∙ entries) (c.are_named_right.ensures.0 c.if-not-are_named_right.false);
         tails = subst AreZero tail (c.is_tail_zero.ensures.0 c.if-not-is_tail_zero.false);
       },
-      λ sound. exact.1 (subst AreNamesApart (sym (c.deref-3.ensures.value ∙ entries)) sound.names))) c.are_names_apart.ensures
+      λ sound. exact.1 (subst AreNamesApart (sym (c.deref-3.ensures.value ∙ entries)) sound.names),
+    )) c.are_names_apart.ensures

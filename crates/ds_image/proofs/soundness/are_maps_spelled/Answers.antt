@@ -10,13 +10,14 @@ spelled_in : {xs ys : List (Option Bitmap)} → xs ≡ ys → AllSpelled xs → 
 spelled_in same all = subst (λ (maps : List (Option Bitmap)). AllSpelled maps) same all
 
 pub returns : goal.returns
-returns c =
-    (λ yes. each_kind (λ kind. AllSpelled (maps_of c.args.parts.now kind))
-        (spelled_in c.maps.ensures (c.are_spelled.ensures.0 c.if-not-are_spelled.false))
-        (spelled_in c.maps-2.ensures (c.are_spelled-2.ensures.0 c.if-not-are_spelled-2.false))
-        (spelled_in c.maps-3.ensures (c.are_spelled-3.ensures.0 c.if-not-are_spelled-3.false))
-        (spelled_in c.maps-4.ensures (c.are_spelled-4.ensures.0 yes)),
-    λ all. c.are_spelled-4.ensures.1 (spelled_in (sym c.maps-4.ensures) (all kinds.Fb)))
+returns c = (
+  λ yes. each_kind (λ kind. AllSpelled (maps_of c.args.parts.now kind))
+      (spelled_in c.maps.ensures (c.are_spelled.ensures.0 c.if-not-are_spelled.false))
+      (spelled_in c.maps-2.ensures (c.are_spelled-2.ensures.0 c.if-not-are_spelled-2.false))
+      (spelled_in c.maps-3.ensures (c.are_spelled-3.ensures.0 c.if-not-are_spelled-3.false))
+      (spelled_in c.maps-4.ensures (c.are_spelled-4.ensures.0 yes)),
+  λ all. c.are_spelled-4.ensures.1 (spelled_in (sym c.maps-4.ensures) (all kinds.Fb)),
+)
 
 pub returns-then-not-are_spelled : goal.returns-then-not-are_spelled
 returns-then-not-are_spelled c =

@@ -9,9 +9,10 @@ use Rattle.ds_image.proofs.SoundParts.{short_rows, sound-from, objects-of, marke
 use Rattle.ds_image.proofs.soundness.is_sound.Goals as goal
 
 pub returns-then-not-branch : goal.returns-then-not-branch
-returns-then-not-branch c =
-    (λ wrong. absurd (false≢true wrong),
-    λ sound. absurd (false≢true (sym c.if-not-branch.true ∙ c.in_ok-are_sound_objects.ensures.1 (objects-of c.args.parts.now sound))))
+returns-then-not-branch c = (
+  λ wrong. absurd (false≢true wrong),
+  λ sound. absurd (false≢true (sym c.if-not-branch.true ∙ c.in_ok-are_sound_objects.ensures.1 (objects-of c.args.parts.now sound))),
+)
 
 pub is_marked-requires : goal.is_marked-requires
 is_marked-requires c =
@@ -24,5 +25,6 @@ returns c =
     (λ yes exact. (
       λ y. sound-from p (subst (λ bodies. AllSpelled bodies) c.bodies.ensures (c.are_spelled.ensures.0 c.if-not-are_spelled.false))
           (c.are_maps_spelled.ensures.0 c.if-not-are_maps_spelled.false) (c.in_ok-are_sound_objects.ensures.0 c.if-not-branch.false) (exact.0 y),
-      λ sound. exact.1 (marked-of p sound)))
+      λ sound. exact.1 (marked-of p sound),
+    ))
     c.is_marked.ensures
