@@ -18,9 +18,14 @@ pub mod Readings
 pub mod SeenValues
 pub mod Sound
 pub mod KnownUsers
+pub mod ListParents
+pub mod Listings
 pub mod NameCounts
 pub mod Owned
 pub mod ParentWalks
 pub mod Parents
+pub mod ReadTrees
+pub mod Rooted
+pub mod SoundObjects
 pub mod TreeParents
 pub mod Users

@@ -3,20 +3,28 @@
 
 mod asks;
 mod bad_sectors;
+mod building;
 #[cfg(test)]
 mod format_tests;
 mod formatting;
 mod guards;
 mod images;
+mod listings;
 mod logical;
 #[cfg(test)]
 mod logical_tests;
 mod marks;
 mod name_counts;
+mod owners;
 mod parents;
+mod parts;
 mod plans;
 mod reads;
+mod rooted;
 mod seen;
+mod sound_objects;
+mod soundness;
+mod trees;
 mod users;
 
 pub use asks::Ask;
@@ -29,4 +37,5 @@ pub use name_counts::NameCounts;
 pub use parents::reached;
 pub use plans::Plan;
 pub use seen::Seen;
+pub use trees::read_tree;
 pub use users::Users;

@@ -1,0 +1,45 @@
+-- What the sectors that control a volume spell: its file system information, its slots and headers, and the indexes of
+-- committed journals.
+use Rattle.std.specs.Prelude.{◌≡◌, ℕ, List, Option, slice_get}
+use Rattle.ds_base.specs.Decoding.{IsDecoded}
+use Rattle.ds_base.specs.declared.geometry.Geom.{Geom}
+use Rattle.ds_base.specs.declared.geometry.Kind.{Kind}
+use Rattle.ds_base.specs.declared.geometry.Kind.TheVariants.{Fd}
+use Rattle.ds_base.specs.declared.sectors.Sector.{Sector}
+use Rattle.ds_base.specs.Geometry.{clusters_of, items_of}
+use Rattle.ds_jrnl.specs.declared.index.Index.{Index}
+use Rattle.ds_layout.specs.Places.{cluster_lock, place_sector}
+use Rattle.ds_layout.specs.Volume.{IsId, fs_bytes}
+use Rattle.ds_layout.specs.declared.places.Place.TheVariants as places
+use Rattle.ds_marks.specs.declared.header.Header.{Header}
+use Rattle.ds_marks.specs.declared.slot.Journal.TheVariants.{Committed}
+use Rattle.ds_marks.specs.declared.slot.Slot.{Slot}
+use Rattle.ds_image.specs.Looks.{Look, HasBytes}
+use Rattle.ds_image.specs.Pending.{IsIndexOf}
+use Rattle.ds_image.specs.Readings.{SpellsSlot, SpellsHeader, IsReading}
+
+-- the volume's id, the slots, the headers of descriptors and of each kind's clusters, and for each slot its pending index
+pub record Controls : Type 0 where
+  pub volume : Option (List ℕ)
+  pub slots : List (Option Slot)
+  pub descriptors : List (Option Header)
+  pub clusters : Kind → List (Option Header)
+  pub pending : List (Option Index)
+
+-- sector 1 spells this id
+abbrev pub SpellsId : Geom → Look → List ℕ → Type 0
+SpellsId g look id = IsId id × HasBytes look (place_sector g places.FsInfo) (fs_bytes id)
+
+-- the slot is committed, and its journal's index is that of this transaction, all its targets metadata
+abbrev pub SpellsPending : Geom → List Sector → ℕ → Index → Type 0
+SpellsPending g sectors number x = (s : Slot) × (txn : ℕ) × (count : ℕ) × SpellsSlot g (slice_get sectors) number s
+    × (s.journal ≡ Committed txn count) × IsIndexOf g sectors number s.generation txn count x
+
+-- these are the controls of the volume with these sectors
+pub record ReadsControls (g : Geom) (sectors : List Sector) (c : Controls) : Type 0 where
+  pub volume : IsDecoded c.volume (SpellsId g (slice_get sectors))
+  pub slots : IsReading g.slots (SpellsSlot g (slice_get sectors)) c.slots
+  pub descriptors : IsReading (items_of g Fd) (SpellsHeader g (slice_get sectors)) c.descriptors
+  pub clusters : (kind : Kind) →
+      IsReading (clusters_of g kind) (λ n. SpellsHeader g (slice_get sectors) (cluster_lock kind n)) (c.clusters kind)
+  pub pending : IsReading g.slots (SpellsPending g sectors) c.pending

@@ -1,0 +1,6 @@
+pub mod Controls
+pub mod Rows
+pub mod Marks
+pub mod Journals
+pub mod Objects
+pub mod Findings

@@ -1,0 +1,72 @@
+-- The first stage: the file system information, the slots and the headers.
+use Rattle.std.specs.Prelude.{ℕ, Bool, true, false, not, ◌==◌, ◌&&◌, ◌||◌, nat_lt, is_none, if◌then◌else◌, List, ◌++◌, length, Option, Some, None, bytes_eq}
+use Rattle.ds_base.specs.declared.geometry.Geom.{Geom}
+use Rattle.ds_base.specs.declared.geometry.Kind.{Kind}
+use Rattle.ds_base.specs.declared.geometry.Kind.TheVariants.{Fd}
+use Rattle.ds_base.specs.Geometry.{clusters_of, items_of}
+use Rattle.ds_layout.specs.Places.{cluster_lock, place_sector}
+use Rattle.ds_layout.specs.declared.places.Place.TheVariants as places
+use Rattle.ds_marks.specs.declared.header.Header.{Header}
+use Rattle.ds_marks.specs.declared.header.Owner.{Owner}
+use Rattle.ds_marks.specs.declared.slot.Slot.{Slot}
+use Rattle.ds_marks.specs.declared.slot.SlotState.{SlotState}
+use Rattle.ds_marks.specs.declared.slot.SlotState.TheVariants.{Free, Live, Breaking}
+use Rattle.ds_image.specs.Parts.{part_at}
+use Rattle.ds_check.specs.declared.findings.Find.{Find}
+use Rattle.ds_check.specs.declared.findings.Find.TheVariants.{SectorForm, HeaderOwner, SlotBreaker}
+use Rattle.ds_check.specs.Controls.{Controls}
+use Rattle.ds_check.specs.Rows.{find_if, row, row_of_kinds}
+
+-- whether the file system information is that of this volume
+abbrev pub names_volume : List ℕ → Option (List ℕ) → Bool
+names_volume id None = false
+names_volume id (Some named) = bytes_eq named id
+
+-- the sectors without their form, by rising number
+abbrev pub unformed : Geom → List ℕ → Controls → List Find
+unformed g id c =
+    find_if (not (names_volume id c.volume)) (SectorForm (place_sector g places.FsInfo))
+    ++ row g.slots (λ n. find_if (is_none (part_at c.slots n)) (SectorForm (place_sector g (places.Slot n))))
+    ++ row_of_kinds (λ kind. row (clusters_of g kind) (λ n.
+        find_if (is_none (part_at (c.clusters kind) n)) (SectorForm (place_sector g (places.Header (cluster_lock kind n))))))
+    ++ row (items_of g Fd) (λ o. find_if (is_none (part_at c.descriptors o)) (SectorForm (place_sector g (places.Header o))))
+
+abbrev pub is_free : SlotState → Bool
+is_free Free = true
+is_free _ = false
+
+-- whether a slot can't have been in this generation: it is in a lower one, or it is free in it; a slot without its form tells
+-- nothing
+abbrev pub is_before : Option Slot → ℕ → Bool
+is_before None generation = false
+is_before (Some s) generation = nat_lt s.generation generation || (is_free s.state && (s.generation == generation))
+
+-- whether a header's owner is at odds with the slots
+abbrev pub is_astray : List (Option Slot) → Option Owner → Bool
+is_astray slots None = false
+is_astray slots (Some o) = if nat_lt o.slot (length slots) then is_before (part_at slots o.slot) o.generation else true
+
+abbrev pub owner_finds : List (Option Slot) → ℕ → Option Header → List Find
+owner_finds slots object None = find_if false (HeaderOwner object)
+owner_finds slots object (Some h) = find_if (is_astray slots h.owner) (HeaderOwner object)
+
+-- the headers whose owners are at odds with the slots, by rising lock object: descriptors, then clusters
+abbrev pub misowned : Geom → Controls → List Find
+misowned g c =
+    row (items_of g Fd) (λ o. owner_finds c.slots o (part_at c.descriptors o))
+    ++ row_of_kinds (λ kind. row (clusters_of g kind) (λ n. owner_finds c.slots (cluster_lock kind n) (part_at (c.clusters kind) n)))
+
+-- whether a slot's breaker is a slot that isn't there
+abbrev pub has_no_breaker : ℕ → SlotState → Bool
+has_no_breaker slots (Breaking by generation) = not (nat_lt by slots)
+has_no_breaker slots _ = false
+
+abbrev pub breaker_finds : ℕ → ℕ → Option Slot → List Find
+breaker_finds slots number None = find_if false (SlotBreaker number)
+breaker_finds slots number (Some s) = find_if (has_no_breaker slots s.state) (SlotBreaker number)
+
+abbrev pub misbroken : Geom → Controls → List Find
+misbroken g c = row g.slots (λ n. breaker_finds g.slots n (part_at c.slots n))
+
+abbrev pub marks_stage : Geom → List ℕ → Controls → List Find
+marks_stage g id c = unformed g id c ++ misowned g c ++ misbroken g c
