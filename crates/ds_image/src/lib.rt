@@ -14,6 +14,8 @@ mod reads;
 mod rooted;
 mod sound_objects;
 mod soundness;
+#[cfg(test)]
+mod tree_tests;
 mod trees;
 mod users;
 
