@@ -6,6 +6,7 @@ use ds_base::{Geom, Key, Kind, Name, NodeKind, Sector};
 use ds_bitmap::Bits;
 use ds_dir::{Entry, SubBlock};
 use ds_fd::Body;
+use ds_ptr::PtrBlock;
 use ds_tree::Tree;
 use std::alloc::Global;
 use std::test::Fail;
@@ -55,11 +56,11 @@ fn put(sectors: &mut Vec<Sector>, at: usize, sector: Sector) {
     }
 }
 
-fn put_bits(sectors: &mut Vec<Sector>, at: usize, kind: Kind, used: &[u16]) {
-    if SMALL.check().is_err() {
+fn put_bits(sectors: &mut Vec<Sector>, geom: &Geom, at: usize, kind: Kind, used: &[u16]) {
+    if geom.check().is_err() {
         return;
     }
-    let mut bits = Bits::new(&SMALL, kind, 0);
+    let mut bits = Bits::new(geom, kind, 0);
     for item in used {
         if bits.used().get(usize::from(*item)) == Some(&false) {
             bits.take(*item);
@@ -110,10 +111,10 @@ fn volume(alloc: Global, wrong: Wrong) -> Result<Vec<Sector>, Fail> {
     } else {
         &[1, 3]
     };
-    put_bits(&mut sectors, 36, Kind::Fd, &[0, 1, 2]);
-    put_bits(&mut sectors, 38, Kind::Sb, &[0, 1]);
-    put_bits(&mut sectors, 40, Kind::Pb, &[]);
-    put_bits(&mut sectors, 42, Kind::Fb, blocks);
+    put_bits(&mut sectors, &SMALL, 36, Kind::Fd, &[0, 1, 2]);
+    put_bits(&mut sectors, &SMALL, 38, Kind::Sb, &[0, 1]);
+    put_bits(&mut sectors, &SMALL, 40, Kind::Pb, &[]);
+    put_bits(&mut sectors, &SMALL, 42, Kind::Fb, blocks);
     let root = Key {
         object: 0,
         birth: if wrong == Wrong::BirthOfRoot { 2 } else { 1 },
@@ -174,6 +175,72 @@ fn tree_of(alloc: Global, wrong: Wrong) -> Result<Option<Tree>, Fail> {
     }
     let image = Image::of_sectors(&SMALL, sectors);
     Ok(read_tree(alloc, &image)?)
+}
+
+/// Bitmaps at sectors 36, 38, 40 and 42, bodies at 44 and 46, a sub-block at 47, a pointer block at 48.
+const LARGE: Geom = Geom {
+    slots: 1,
+    block: 1,
+    clusters: [1, 1, 1, 1],
+    items: [2, 1, 1, 100],
+};
+
+/// The root has a file of 97 blocks, 0 to 96 in order, with this address behind the last.
+fn tree_of_large(alloc: Global, behind: u32) -> Result<Option<Tree>, Fail> {
+    let mut sectors = vec![in alloc; Sector::zero(); 49]?;
+    let mut blocks = [0; 97];
+    let mut addresses = [0; 128];
+    for i in 0..97u16 {
+        blocks[usize::from(i)] = i;
+        addresses[usize::from(i)] = u32::from(i);
+    }
+    addresses[97] = behind;
+    put_bits(&mut sectors, &LARGE, 36, Kind::Fd, &[0, 1]);
+    put_bits(&mut sectors, &LARGE, 38, Kind::Sb, &[0]);
+    put_bits(&mut sectors, &LARGE, 40, Kind::Pb, &[0]);
+    put_bits(&mut sectors, &LARGE, 42, Kind::Fb, &blocks);
+    put_body(
+        &mut sectors,
+        Key {
+            object: 0,
+            birth: 1,
+        },
+        NodeKind::Dir,
+        &[0],
+    );
+    put_large_body(&mut sectors);
+    put_sub(&mut sectors, 47, entry(b"f", 1, 3, NodeKind::File), None);
+    put(&mut sectors, 48, PtrBlock { addresses }.encode());
+    if LARGE.check().is_err() || sectors.len() != 49 {
+        return Ok(None);
+    }
+    let image = Image::of_sectors(&LARGE, sectors);
+    Ok(read_tree(alloc, &image)?)
+}
+
+fn put_large_body(sectors: &mut Vec<Sector>) {
+    let body = Body {
+        object: 1,
+        kind: Some(NodeKind::File),
+        links: 1,
+        birth: 3,
+        count: 97,
+        addresses: [0; 96],
+    };
+    if body.is_valid() {
+        put(sectors, 46, body.encode());
+    }
+}
+
+#[test]
+fn a_large_file_has_the_blocks_of_its_pointer_blocks(rt: HostRuntime) -> Result<(), Fail> {
+    let tree = tree_of_large(rt.alloc(), 0)?.ok_or("it stands for none")?;
+    let blocks = tree.blocks(1);
+    assert_eq!(rt; blocks.len(), 97);
+    assert_eq!(rt; blocks.first(), Some(&0));
+    assert_eq!(rt; blocks.last(), Some(&96));
+    assert!(rt; tree_of_large(rt.alloc(), 99)?.is_none());
+    Ok(())
 }
 
 #[test]
