@@ -24,6 +24,8 @@ mod rooted;
 mod seen;
 mod sound_objects;
 mod soundness;
+#[cfg(test)]
+mod tree_tests;
 mod trees;
 mod users;
 
