@@ -1,6 +1,7 @@
 //! The logical image of a device.
-ghost use Rattle.std.specs.Prelude.{All, ◌≡◌, ◌<◌, ◌≤◌, [], Some, MatchOption, IfOk, IfErr, OnOk, slice_get, length};
+ghost use Rattle.std.specs.Prelude.{All, List, ◌≡◌, ◌<◌, ◌≤◌, [], Some, MatchOption, IfOk, IfErr, OnOk, slice_get, length};
 ghost use Rattle.ds_base.specs.Geometry.{IsGeom};
+ghost use Rattle.ds_base.specs.declared.sectors.Sector.{Sector};
 ghost use Rattle.ds_layout.specs.Places.{blocks_at, total_of};
 ghost use Rattle.ds_image.specs.BadSectors.{HasNoBad};
 ghost use Rattle.ds_image.specs.Faults.{IsFaultOf};
@@ -20,8 +21,21 @@ use ds_lun::MemLun;
 use ds_marks::Journal;
 use std::alloc::Global;
 
-/// The logical image of a device that holds a volume: its metadata with the pending pairs of all slots laid over them.
+/// The logical image of a device that holds a volume, which is the only one: its metadata with the pending pairs of all slots laid
+/// over them.
 pub fn overlay(alloc: Global, geom: &Geom, lun: &MemLun) -> Result<Image, ImageFault>
+    requires geom { IsGeom geom.now }
+    requires size { length lun.now ≡ total_of geom.now }
+    ensures geom { IfOk result (λ image. image.geom ≡ geom.now) }
+    ensures logical { IfOk result (λ image. IsLogical geom.now lun.now image.sectors) }
+    ensures only { IfOk result (λ image. (other : List Sector) → IsLogical geom.now lun.now other → other ≡ image.sectors) }
+    ensures good { OnOk result (HasNoBad geom.now lun.now) }
+    ensures fault { IfErr result (IsFaultOf geom.now lun.now) }
+{
+    overlaid(alloc, geom, lun)
+}
+
+fn overlaid(alloc: Global, geom: &Geom, lun: &MemLun) -> Result<Image, ImageFault>
     requires geom { IsGeom geom.now }
     requires size { length lun.now ≡ total_of geom.now }
     ensures geom { IfOk result (λ image. image.geom ≡ geom.now) }

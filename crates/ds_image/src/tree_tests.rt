@@ -1,15 +1,17 @@
 //! A small volume as its hosts leave it stands for a tree, and for none once one thing in it is wrong.
 
-use crate::images::Image;
-use crate::read_tree;
+use crate::{format, overlay, read_tree};
 use ds_base::{Geom, Key, Kind, Name, NodeKind, Sector};
 use ds_bitmap::Bits;
 use ds_dir::{Entry, SubBlock};
 use ds_fd::Body;
+use ds_layout::total;
+use ds_lun::MemLun;
 use ds_ptr::PtrBlock;
 use ds_tree::Tree;
 use std::alloc::Global;
 use std::test::Fail;
+use uuid::Uuid;
 
 /// Bitmaps at sectors 36, 38, 40 and 42, bodies at 44, 46 and 48, sub-blocks at 49 and 50, a pointer block at 51.
 const SMALL: Geom = Geom {
@@ -49,6 +51,24 @@ const WRONG: [Wrong; 11] = [
     Wrong::NoBody,
     Wrong::NoSubBlock,
 ];
+
+/// The sectors of a new volume.
+fn formatted(alloc: Global, geom: &Geom) -> Result<Vec<Sector>, Fail> {
+    if geom.check().is_err() {
+        return Ok(Vec::new(alloc));
+    }
+    Ok(format(alloc, geom, Uuid::from_u128(7))?)
+}
+
+/// The tree for which a volume of these sectors stands.
+fn tree_on(alloc: Global, geom: &Geom, sectors: Vec<Sector>) -> Result<Option<Tree>, Fail> {
+    let lun = MemLun::from_list(sectors);
+    if geom.check().is_err() || lun.len() != total(geom) {
+        return Ok(None);
+    }
+    let image = overlay(alloc, geom, &lun)?;
+    Ok(read_tree(alloc, &image)?)
+}
 
 fn put(sectors: &mut Vec<Sector>, at: usize, sector: Sector) {
     if at < sectors.len() {
@@ -105,7 +125,7 @@ fn put_sub(sectors: &mut Vec<Sector>, at: usize, first: Option<Entry>, second: O
 
 /// The root lists sub-block 1 with directory `d`; that lists sub-block 0 with file `f`, which has blocks 3 and 1.
 fn volume(alloc: Global, wrong: Wrong) -> Result<Vec<Sector>, Fail> {
-    let mut sectors = vec![in alloc; Sector::zero(); 52]?;
+    let mut sectors = formatted(alloc, &SMALL)?;
     let blocks: &[u16] = if wrong == Wrong::UnlistedBlock {
         &[0, 1, 3]
     } else {
@@ -170,11 +190,7 @@ fn put_entries(sectors: &mut Vec<Sector>, wrong: Wrong) {
 
 fn tree_of(alloc: Global, wrong: Wrong) -> Result<Option<Tree>, Fail> {
     let sectors = volume(alloc, wrong)?;
-    if SMALL.check().is_err() || sectors.len() != 52 {
-        return Ok(None);
-    }
-    let image = Image::of_sectors(&SMALL, sectors);
-    Ok(read_tree(alloc, &image)?)
+    tree_on(alloc, &SMALL, sectors)
 }
 
 /// Bitmaps at sectors 36, 38, 40 and 42, bodies at 44 and 46, a sub-block at 47, a pointer block at 48.
@@ -187,7 +203,7 @@ const LARGE: Geom = Geom {
 
 /// The root has a file of 97 blocks, 0 to 96 in order, with this address behind the last.
 fn tree_of_large(alloc: Global, behind: u32) -> Result<Option<Tree>, Fail> {
-    let mut sectors = vec![in alloc; Sector::zero(); 49]?;
+    let mut sectors = formatted(alloc, &LARGE)?;
     let mut blocks = [0; 97];
     let mut addresses = [0; 128];
     for i in 0..97u16 {
@@ -211,11 +227,7 @@ fn tree_of_large(alloc: Global, behind: u32) -> Result<Option<Tree>, Fail> {
     put_large_body(&mut sectors);
     put_sub(&mut sectors, 47, entry(b"f", 1, 3, NodeKind::File), None);
     put(&mut sectors, 48, PtrBlock { addresses }.encode());
-    if LARGE.check().is_err() || sectors.len() != 49 {
-        return Ok(None);
-    }
-    let image = Image::of_sectors(&LARGE, sectors);
-    Ok(read_tree(alloc, &image)?)
+    tree_on(alloc, &LARGE, sectors)
 }
 
 fn put_large_body(sectors: &mut Vec<Sector>) {

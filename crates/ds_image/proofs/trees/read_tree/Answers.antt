@@ -1,25 +1,22 @@
--- The image stands for the tree that its parts spell, or for none.
-use Rattle.std.proofs.Common.{slice_get, sym, ◌∙◌, subst}
-use Rattle.std.proofs.lemmas.Bool.{false≢true}
-use Rattle.ds_base.specs.declared.geometry.Geom.{Geom}
-use Rattle.ds_tree.specs.WellFormed.{IsTree}
-use Rattle.ds_image.specs.Objects.{tree_of}
-use Rattle.ds_image.proofs.ReadTrees.{none-unsound, none-unrooted}
-use Rattle.ds_image.proofs.TreesThatStand.{tree-from_rooted}
+-- An image stands for at most one tree.
+use Rattle.std.proofs.lemmas.Result.{IfOk-weaker}
+use Rattle.std.proofs.Common.{◌≡◌, Option, None, Some, MatchOption, IfSome}
+use Rattle.ds_tree.specs.Nodes.{FileTree}
+use Rattle.ds_tree.specs.Trees.{TreeValue}
+use Rattle.ds_image.specs.ReadTrees.{StandsForNone}
+use Rattle.ds_image.specs.Sound.{StandsFor}
+use Rattle.ds_image.proofs.Standing.{stands_once}
 use Rattle.ds_image.proofs.trees.read_tree.Goals as goal
 
-pub returns-then-not-branch-clause-tree : goal.returns-then-not-branch-clause-tree
-returns-then-not-branch-clause-tree c =
-    none-unsound c.args.image.now.geom c.args.image.now.sectors c.in_ok-parts.parts c.in_ok-parts.ensures
-    (λ sound. false≢true (sym c.if-not-branch.true ∙ c.in_ok-is_sound.ensures.1 sound))
-
-pub returns-then-not-branch-2-clause-tree : goal.returns-then-not-branch-2-clause-tree
-returns-then-not-branch-2-clause-tree c =
-    none-unrooted c.args.image.now.geom c.args.image.now.sectors c.in_ok-parts.parts c.in_ok-parts.ensures (c.in_ok-is_sound.ensures.0 c.if-not-branch.false)
-    (λ rooted. false≢true (sym c.if-not-branch-2.true ∙ c.in_ok-is_rooted.ensures.1 rooted))
-
-pub tree_of-requires-clause-tree : goal.tree_of-requires-clause-tree
-tree_of-requires-clause-tree c =
-    subst (λ (g : Geom). IsTree g (tree_of c.in_ok-parts.parts)) (sym c.geom-geom.ensures.value)
-    (tree-from_rooted c.args.image.now.geom (slice_get c.args.image.now.sectors) c.in_ok-parts.parts c.in_ok-parts.ensures (c.in_ok-is_sound.ensures.0 c.if-not-branch.false)
-    (c.in_ok-is_rooted.ensures.0 c.if-not-branch-2.false))
+pub returns-clause-only : goal.returns-clause-only
+returns-clause-only c =
+    let g = c.args.image.now.geom in
+    let sectors = c.args.image.now.sectors in
+    let Only : Option TreeValue → Type 0 = λ found. IfSome found (λ (it : TreeValue). (t : FileTree) → StandsFor g sectors t → t ≡ it.tree) in
+    IfOk-weaker _
+    (λ (found : Option TreeValue). MatchOption found (StandsForNone g sectors) (λ (it : TreeValue). StandsFor g sectors it.tree))
+    Only
+    (λ found is. (elim found as (λ (found : Option TreeValue). MatchOption found (StandsForNone g sectors) (λ (it : TreeValue). StandsFor g sectors it.tree) → Only found) [
+        None ↦ λ none. tt
+      | Some it ↦ λ stands t that. stands_once g sectors t it.tree that stands ]) is)
+    c.tree_in.ensures.tree
