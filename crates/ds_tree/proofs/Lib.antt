@@ -14,3 +14,4 @@ mod RenameInsideKeeps
 mod RenameAcrossKeeps
 mod ResizeKeeps
 pub mod StepKeeps
+pub mod PlainPasses

@@ -9,3 +9,6 @@ pub mod Codes
 pub mod CallNames
 pub mod WellFormed
 pub mod Lowest
+pub mod Lines
+pub mod Grammar
+pub mod PlainPass

@@ -1,0 +1,5 @@
+pub mod Answers
+pub mod Faults
+pub mod Fronts
+pub mod Passing
+pub mod Reading
