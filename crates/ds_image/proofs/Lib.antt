@@ -7,6 +7,9 @@ pub mod Marking
 pub mod OwnedCounts
 pub mod Owning
 pub mod Places
+pub mod Guarding
+pub mod Laying
+pub mod OneLogical
 pub mod Readings
 pub mod Sizes
 pub mod Standing

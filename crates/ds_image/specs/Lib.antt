@@ -1,6 +1,9 @@
 pub mod BadSectors
+pub mod Faults
 pub mod Guards
 pub mod ImageValues
+pub mod Laying
+pub mod Listers
 pub mod Logical
 pub mod Looks
 pub mod Metadata

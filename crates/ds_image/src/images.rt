@@ -1,7 +1,6 @@
 //! Logical images.
-ghost use Rattle.std.specs.Prelude.{◌≡◌, Some, MatchOption, slice_get, length};
-ghost use Rattle.ds_base.specs.Geometry.{IsGeom};
-ghost use Rattle.ds_layout.specs.Places.{blocks_at};
+ghost use Rattle.std.specs.Prelude.{◌≡◌, Some, MatchOption, slice_get};
+ghost use Rattle.ds_image.specs.ImageValues.{IsImage};
 ghost use Rattle.ds_image.specs.Metadata.{IsMetadata, is_metadata};
 
 use ds_base::{Geom, Sector, SectorNo};
@@ -17,16 +16,13 @@ pub struct Image {
 }
 
 impl Model for Image {
-    ghost use Rattle.std.specs.Prelude.{◌≡◌, length};
-    ghost use Rattle.ds_base.specs.Geometry.{IsGeom};
-    ghost use Rattle.ds_layout.specs.Places.{blocks_at};
-    ghost use Rattle.ds_image.specs.ImageValues.{ImageValue};
+    ghost use Rattle.ds_image.specs.ImageValues.{ImageValue, IsImage};
 
     ghost Value = { ImageValue };
 
     ghost view = { λ image. record { geom = image.geom; sectors = image.sectors.items } };
 
-    ghost invariant = { λ image. IsGeom image.geom × (length image.sectors.items ≡ blocks_at image.geom) };
+    ghost invariant = { λ image. IsImage image.geom image.sectors.items };
 }
 
 /// Why there is no image: want of memory, or the least sector that is a slot or header that doesn't decode, or the index of
@@ -42,8 +38,7 @@ pub enum ImageFault {
 impl Image {
     /// The image of these sectors, which are those in front of a volume's file blocks.
     pub(crate) fn of_sectors(geom: &Geom, sectors: Vec<Sector>) -> Image
-        requires geom { IsGeom geom.now }
-        requires size { length sectors.items ≡ blocks_at geom.now }
+        requires { IsImage geom.now sectors.items }
         ensures geom { result.geom ≡ geom.now }
         ensures sectors { result.sectors ≡ sectors.items }
     {
@@ -51,6 +46,14 @@ impl Image {
             geom: *geom,
             sectors,
         }
+    }
+
+    /// The geometry of the volume.
+    pub(crate) fn geom(&self) -> &Geom
+        ensures same { result.now ≡ self.now.geom }
+        ensures whole { IsImage self.now.geom self.now.sectors }
+    {
+        &self.geom
     }
 
     /// The sector of a body, a bitmap, a sub-block or a pointer block; `None` where the sector is none of these.

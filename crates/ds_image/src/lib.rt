@@ -2,9 +2,13 @@
 #![tactic(auto)]
 
 mod bad_sectors;
+mod guards;
 mod images;
+mod logical;
 mod marks;
 mod reads;
 
+pub use guards::guard;
 pub use images::{Image, ImageFault};
+pub use logical::overlay;
 pub use marks::Marks;

@@ -1,0 +1,133 @@
+//! Which lock object protects a sector of an image.
+ghost use Rattle.std.specs.Prelude.{◌≡◌, ◌==◌, ◌/◌, ◌<◌, ◌≤◌, Some, slice_get};
+ghost use Rattle.std.specs.List.{list_any};
+ghost use Rattle.ds_base.specs.Decoding.{IsDecoded};
+ghost use Rattle.ds_base.specs.Geometry.{IsGeom, items_of, per_cluster};
+ghost use Rattle.ds_fd.specs.Body.{IsBody};
+ghost use Rattle.ds_layout.specs.Places.{cluster_lock, IsPlace};
+ghost use Rattle.ds_tree.specs.Counts.{pointer_blocks};
+ghost use Rattle.ds_image.specs.Guards.{lister_or, guard_of, IsGuard};
+ghost use Rattle.ds_image.specs.Listers.{listed_of, listed_lists};
+ghost use Rattle.ds_image.specs.Parts.{Parts, part_at};
+ghost use Rattle.ds_image.specs.Readings.{SpellsBody, Reads};
+
+use crate::images::Image;
+use ds_base::{Geom, Kind, NodeKind, ObjNo, SectorNo};
+use ds_fd::Body;
+use ds_layout::{Place, place_of, sector_of};
+
+/// The lock object that protects a sector: a body's descriptor, a bitmap's cluster, and for a sub-block or a pointer block
+/// the least descriptor that lists it, or else its cluster. `None` where the sector is none of these.
+pub fn guard(image: &Image, at: SectorNo) -> Option<ObjNo>
+    ensures { IsDecoded result (IsGuard image.now.geom (slice_get image.now.sectors) at) }
+{
+    let place = place_of(image.geom(), at)?;
+    guard_of(image, &place)
+}
+
+fn guard_of(image: &Image, place: &Place) -> Option<ObjNo>
+    requires { IsPlace image.now.geom place.now }
+    ensures { (p : Parts) → Reads image.now.geom (slice_get image.now.sectors) p
+        → result ≡ guard_of image.now.geom p place.now }
+{
+    match *place {
+        Place::Body(object) => Some(object),
+        Place::Bitmap { kind, cluster } => Some(cluster_lock(kind, u32::from(cluster))),
+        Place::SubBlock(n) => {
+            let cluster = lock_of_item(image.geom(), Kind::Sb, n);
+            Some(lister_or(image, NodeKind::Dir, n, cluster))
+        }
+        Place::PtrBlock(n) => {
+            let cluster = lock_of_item(image.geom(), Kind::Pb, n);
+            Some(lister_or(image, NodeKind::File, n, cluster))
+        }
+        _ => None,
+    }
+}
+
+/// The lock object that an item's cluster is.
+#[tactic(auto, using(ds_layout::proofs::Bounds::most_items_of))]
+fn lock_of_item(geom: &Geom, kind: Kind, n: u32) -> ObjNo
+    requires geom { IsGeom geom.now }
+    requires inside { n < items_of geom.now kind }
+    ensures { result ≡ cluster_lock kind (n / per_cluster geom.now kind) }
+{
+    cluster_lock(kind, n / u32::from(geom.items[kind as usize]))
+}
+
+/// The lock object that a cluster is.
+fn cluster_lock(kind: Kind, cluster: u32) -> ObjNo
+    requires { cluster ≤ 30720 }
+    ensures { result ≡ cluster_lock kind cluster }
+{
+    2048 + 8 * (kind as u32) + cluster
+}
+
+/// The least descriptor of the kind that lists the item, or else this cluster.
+fn lister_or(image: &Image, kind: NodeKind, n: u32, cluster: ObjNo) -> ObjNo
+    ensures { (p : Parts) → Reads image.now.geom (slice_get image.now.sectors) p
+        → result ≡ lister_or (listed_lists kind p) n cluster }
+{
+    for object in 0..descriptors(image.geom()) {
+        if lists(image, kind, object, n) {
+            return object;
+        }
+    }
+    cluster
+}
+
+/// The number of descriptors.
+fn descriptors(geom: &Geom) -> u32
+    ensures { result ≡ items_of geom.now Kind.Fd }
+{
+    u32::from(geom.clusters[0]) * u32::from(geom.items[0])
+}
+
+/// Whether a descriptor is of the kind and lists the item.
+fn lists(image: &Image, kind: NodeKind, object: ObjNo, n: u32) -> bool
+    requires { object < items_of image.now.geom Kind.Fd }
+    ensures { (p : Parts) → Reads image.now.geom (slice_get image.now.sectors) p
+        → result ≡ list_any (λ x. x == n) (listed_of kind (part_at p.bodies object)) }
+{
+    match body_at(image, object) {
+        Some(body) => listed(&body, kind).contains(&n),
+        None => false,
+    }
+}
+
+/// The body that a descriptor's sector spells.
+fn body_at(image: &Image, object: ObjNo) -> Option<Body>
+    requires { object < items_of image.now.geom Kind.Fd }
+    ensures { IsDecoded result (SpellsBody image.now.geom (slice_get image.now.sectors) object) }
+{
+    let sector = image.sector(sector_of(image.geom(), &Place::Body(object)))?;
+    Body::decode(object, sector)
+}
+
+/// The items that a body of the kind lists; any other lists none.
+fn listed(body: &Body, kind: NodeKind) -> &[u32]
+    requires { IsBody body.now }
+    ensures { result.now ≡ listed_of kind (Some body.now) }
+{
+    if body.kind != Some(kind) {
+        return &[];
+    }
+    let count = match kind {
+        NodeKind::Dir => body.count,
+        NodeKind::File => pointer_blocks(body.count),
+    };
+    &body.addresses[..count as usize]
+}
+
+/// The pointer blocks of a file of so many blocks.
+fn pointer_blocks(blocks: u32) -> u32
+    requires { blocks ≤ 12288 }
+    ensures exact { result ≡ pointer_blocks blocks }
+    ensures most { result ≤ 96 }
+{
+    if blocks <= 96 {
+        0
+    } else {
+        blocks.div_ceil(128)
+    }
+}
