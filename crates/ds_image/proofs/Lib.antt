@@ -2,10 +2,13 @@ pub mod BadSectors
 pub mod Decoded
 pub mod LaidOver
 pub mod Listed
+pub mod CountedNames
 pub mod MarkedLists
 pub mod Marking
+pub mod NotedUsers
 pub mod OwnedCounts
 pub mod Owning
+pub mod OwningUsers
 pub mod Places
 pub mod Guarding
 pub mod Laying
@@ -13,3 +16,6 @@ pub mod OneLogical
 pub mod Readings
 pub mod Sizes
 pub mod Standing
+pub mod ReachedParents
+pub mod RowsOfUsers
+pub mod WalkingParents

@@ -1,13 +1,13 @@
 -- Which lists can be marked, and what marks are after one list and another.
-use Rattle.std.proofs.Common.{◌≡◌, ◌≢◌, ℕ, zero, suc, ◌+◌, ◌<◌, ◌≤◌, ◌⊎◌, ◌↔◌, Bool, true, false, List, [], ◌∷◌, ◌++◌, length, get_or, set, inl, inr, refl, sym, ap, ◌∙◌, subst, arith}
-use Rattle.std.specs.Prelude.{Contains, Some, None, slice_get}
+use Rattle.std.proofs.Common.{◌≡◌, ℕ, suc, ◌+◌, ◌<◌, Bool, true, false, List, [], ◌∷◌, ◌++◌, length, set, inl, inr, refl, sym, ap, ◌∙◌, arith}
+use Rattle.std.specs.Prelude.{Contains, Some, slice_get}
 use Rattle.std.proofs.lemmas.Bool.{cases_eq, cases_Bool, false≢true}
 use Rattle.std.proofs.lemmas.List.{get_or-set_same, get_or-set_other, length-set}
 use Rattle.std.proofs.lemmas.List.Elements.{Contains-append_left, Contains-append_right, Contains-append_cases}
 use Rattle.std.proofs.lemmas.Option.{slice_get_within}
 use Rattle.ds_image.specs.Owns.{bit}
 use Rattle.ds_image.specs.Owned.{CanMark, AddsMarks, ClearsMarks, with_marks}
-use Rattle.ds_image.proofs.Places.{at-append, at-append_left, at-append_right, at-single, Contains-from_at, at-from_Contains, marked-within, bit-at, bit-from_at}
+use Rattle.ds_image.proofs.Places.{at-append, at-append_left, at-append_right, at-single, Contains-from_at, at-from_Contains, bit-at, bit-from_at}
 
 Contains-single : (y x : ℕ) → Contains (y ∷ []) x → x ≡ y
 Contains-single y x held = let at = at-from_Contains (y ∷ []) x held in (at-single y at.0 x at.1).1
@@ -24,13 +24,15 @@ pub adds-one : (bits : List Bool) (y : ℕ) → y < length bits → AddsMarks bi
 adds-one bits y within = record {
   count = length-set bits y true;
   marks = λ x. elim (cases_eq x y) [
-    | inl same ↦ (λ _. inr (Contains-from_at (y ∷ []) 0 x (ap Some (sym same))), λ _. ap (bit (set bits y true)) same ∙ get_or-set_same bits y true false within)
+    | inl same ↦ (λ _. inr (Contains-from_at (y ∷ []) 0 x (ap Some (sym same))), λ _. ap (bit (set bits y true)) same
+        ∙ get_or-set_same bits y true false within)
     | inr apart ↦ (
-        λ marked. inl (sym (get_or-set_other bits y x true false apart) ∙ marked),
-        λ either. elim either [
-          | inl marked ↦ get_or-set_other bits y x true false apart ∙ marked
-          | inr held ↦ absurd (apart (Contains-single y x held))
-        ])
+      λ marked. inl (sym (get_or-set_other bits y x true false apart) ∙ marked),
+      λ either. elim either [
+        | inl marked ↦ get_or-set_other bits y x true false apart ∙ marked
+        | inr held ↦ absurd (apart (Contains-single y x held))
+      ],
+    )
   ];
 }
 
@@ -39,11 +41,13 @@ clears-one bits y within = record {
   count = length-set bits y false;
   marks = λ x. elim (cases_eq x y) [
     | inl same ↦ (
-        λ marked. absurd (false≢true (sym (get_or-set_same bits y false false within) ∙ ap (bit (set bits y false)) (sym same) ∙ marked)),
-        λ both. absurd (both.1 (Contains-from_at (y ∷ []) 0 x (ap Some (sym same)))))
+      λ marked. absurd (false≢true (sym (get_or-set_same bits y false false within) ∙ ap (bit (set bits y false)) (sym same) ∙ marked)),
+      λ both. absurd (both.1 (Contains-from_at (y ∷ []) 0 x (ap Some (sym same)))),
+    )
     | inr apart ↦ (
-        λ marked. (sym (get_or-set_other bits y x false false apart) ∙ marked, λ held. apart (Contains-single y x held)),
-        λ both. get_or-set_other bits y x false false apart ∙ both.0)
+      λ marked. (sym (get_or-set_other bits y x false false apart) ∙ marked, λ held. apart (Contains-single y x held)),
+      λ both. get_or-set_other bits y x false false apart ∙ both.0,
+    )
   ];
 }
 
@@ -72,7 +76,8 @@ adds-joined a b c xs ys first second = record {
         | inl front ↦ (second.marks x).1 (inl ((first.marks x).1 (inr front)))
         | inr back ↦ (second.marks x).1 (inr back)
       ]
-    ]);
+    ],
+  );
 }
 
 pub clears-joined : (a b c : List Bool) (xs ys : List ℕ) → ClearsMarks a xs b → ClearsMarks b ys c → ClearsMarks a (xs ++ ys) c
@@ -80,25 +85,29 @@ clears-joined a b c xs ys first second = record {
   count = second.count ∙ first.count;
   marks = λ x. (
     λ marked.
-      let late = (second.marks x).0 marked in
-      let early = (first.marks x).0 late.0 in
-      (early.0, λ held. elim (Contains-append_cases xs ys x held) [ inl front ↦ early.1 front | inr back ↦ late.1 back ]),
-    λ both. (second.marks x).1 ((first.marks x).1 (both.0, λ held. both.1 (Contains-append_left xs ys x held)), λ held. both.1 (Contains-append_right xs ys x held)));
+        let late = (second.marks x).0 marked in
+        let early = (first.marks x).0 late.0 in
+        (early.0, λ held. elim (Contains-append_cases xs ys x held) [ inl front ↦ early.1 front | inr back ↦ late.1 back ]),
+    λ both. (second.marks x).1 ((first.marks x).1 (both.0, λ held. both.1 (Contains-append_left xs ys x held)), λ held. both.1
+        (Contains-append_right xs ys x held)),
+  );
 }
 
-pub adds-many : (bits : List Bool) (items : List ℕ) → ((i x : ℕ) → slice_get items i ≡ Some x → x < length bits) → AddsMarks bits items (with_marks bits items true)
+pub adds-many : (bits : List Bool) (items : List ℕ) → ((i x : ℕ) → slice_get items i ≡ Some x → x < length bits)
+    → AddsMarks bits items (with_marks bits items true)
 adds-many bits [] within = adds-none bits
 adds-many bits (y ∷ ys) within =
     let first = adds-one bits y (within 0 y refl) in
     adds-joined bits (set bits y true) (with_marks (set bits y true) ys true) (y ∷ []) ys first
-        (adds-many (set bits y true) ys (λ i x at. omega (arith, within (suc i) x at, first.count)))
+    (adds-many (set bits y true) ys (λ i x at. omega (arith, within (suc i) x at, first.count)))
 
-pub clears-many : (bits : List Bool) (items : List ℕ) → ((i x : ℕ) → slice_get items i ≡ Some x → x < length bits) → ClearsMarks bits items (with_marks bits items false)
+pub clears-many : (bits : List Bool) (items : List ℕ) → ((i x : ℕ) → slice_get items i ≡ Some x → x < length bits)
+    → ClearsMarks bits items (with_marks bits items false)
 clears-many bits [] within = clears-none bits
 clears-many bits (y ∷ ys) within =
     let first = clears-one bits y (within 0 y refl) in
     clears-joined bits (set bits y false) (with_marks (set bits y false) ys false) (y ∷ []) ys first
-        (clears-many (set bits y false) ys (λ i x at. omega (arith, within (suc i) x at, first.count)))
+    (clears-many (set bits y false) ys (λ i x at. omega (arith, within (suc i) x at, first.count)))
 
 -- Lists that can be marked
 
@@ -118,7 +127,8 @@ can-front bits xs ys can = record {
 }
 
 -- an item that isn't marked afterwards wasn't before, and is none of the list
-pub clear-before : (a b : List Bool) (xs : List ℕ) (x : ℕ) → AddsMarks a xs b → slice_get b x ≡ Some false → (slice_get a x ≡ Some false) × ¬ Contains xs x
+pub clear-before : (a b : List Bool) (xs : List ℕ) (x : ℕ) → AddsMarks a xs b → slice_get b x ≡ Some false
+    → (slice_get a x ≡ Some false) × ¬ Contains xs x
 clear-before a b xs x adds free =
     let within : x < length a = omega (arith, slice_get_within b x false free, adds.count) in
     let unmarked = bit-from_at b x false free in
@@ -150,19 +160,19 @@ can-joined a b xs ys first adds second = record {
 pub can-back : (a b : List Bool) (xs ys : List ℕ) → CanMark a (xs ++ ys) → AddsMarks a xs b → CanMark b ys
 can-back a b xs ys can adds = record {
   clear = λ i x at.
-    let free = can.clear (length xs + i) x (at-append_right xs ys i x at) in
-    let within : x < length b = omega (arith, slice_get_within a x false free, adds.count) in
-    let unmarked : bit b x ≡ false = elim (cases_Bool (bit b x)) [
-      | inl marked ↦ elim ((adds.marks x).0 marked) [
-        | inl was ↦ absurd (false≢true (sym (bit-from_at a x false free) ∙ was))
-        | inr held ↦
-          let early = at-from_Contains xs x held in
-          let same = can.once early.0 (length xs + i) x (at-append_left xs ys early.0 x early.1) (at-append_right xs ys i x at) in
-          absurd (omega (arith, same, slice_get_within xs early.0 x early.1))
-      ]
-      | inr clear ↦ clear
-    ] in
-    bit-at b x within ∙ ap Some unmarked;
+      let free = can.clear (length xs + i) x (at-append_right xs ys i x at) in
+      let within : x < length b = omega (arith, slice_get_within a x false free, adds.count) in
+      let unmarked : bit b x ≡ false = elim (cases_Bool (bit b x)) [
+        | inl marked ↦ elim ((adds.marks x).0 marked) [
+          | inl was ↦ absurd (false≢true (sym (bit-from_at a x false free) ∙ was))
+          | inr held ↦
+              let early = at-from_Contains xs x held in
+              let same = can.once early.0 (length xs + i) x (at-append_left xs ys early.0 x early.1) (at-append_right xs ys i x at) in
+              absurd (omega (arith, same, slice_get_within xs early.0 x early.1))
+        ]
+        | inr clear ↦ clear
+      ] in
+      bit-at b x within ∙ ap Some unmarked;
   once = λ i j x at there.
-    omega (arith, can.once (length xs + i) (length xs + j) x (at-append_right xs ys i x at) (at-append_right xs ys j x there));
+      omega (arith, can.once (length xs + i) (length xs + j) x (at-append_right xs ys i x at) (at-append_right xs ys j x there));
 }

@@ -1,8 +1,8 @@
 -- There are as many marked items as listed ones.
-use Rattle.std.proofs.Common.{◌≡◌, ◌≢◌, ℕ, zero, suc, ◌+◌, ◌<◌, ◌≤◌, cond, Bool, true, false, List, [], ◌∷◌, length, set, refl, sym, ap, ◌∙◌, arith, inl, inr}
+use Rattle.std.proofs.Common.{◌≡◌, ◌≢◌, ℕ, zero, suc, ◌+◌, ◌<◌, cond, Bool, true, false, List, [], ◌∷◌, length, set, refl, sym, ap, ◌∙◌, arith, inl, inr}
 use Rattle.std.specs.Prelude.{count_by, slice_get, Some}
 use Rattle.std.specs.List.{sum_by}
-use Rattle.std.proofs.lemmas.Bool.{cases_eq, cases_Bool, false≢true}
+use Rattle.std.proofs.lemmas.Bool.{cases_Bool, false≢true}
 use Rattle.std.proofs.lemmas.List.{get_or-set_same, get_or-set_other}
 use Rattle.std.proofs.lemmas.List.Sums.{sum_by-cons, sum_by-set}
 use Rattle.ds_image.specs.Owns.{IsAt, bit, Owns}
@@ -28,13 +28,13 @@ one-less bits x marked =
 owns-behead : (x : ℕ) (l : List ℕ) (ls : List (List ℕ)) (bits : List Bool) → Owns ((x ∷ l) ∷ ls) bits → Owns (l ∷ ls) (set bits x false)
 owns-behead x l ls bits owns = record {
   once = λ o i p j y one two.
-    let same = owns.once o (place o i) p (place p j) y (before o i y one) (before p j y two) in
-    (same.0, back o i p j same.0 same.1);
+      let same = owns.once o (place o i) p (place p j) y (before o i y one) (before p j y two) in
+      (same.0, back o i p j same.0 same.1);
   marked = λ o i y at. get_or-set_other bits x y false false (apart o i y at) ∙ owns.marked o (place o i) y (before o i y at);
   listed = λ y marked.
-    let differ : y ≢ x = λ same. false≢true (sym (ap (bit (set bits x false)) same ∙ get_or-set_same bits x false false x_within) ∙ marked) in
-    let at = owns.listed y (sym (get_or-set_other bits x y false false differ) ∙ marked) in
-    (at.0, after at.0 at.1.0 y differ at.1.1);
+      let differ : y ≢ x = λ same. false≢true (sym (ap (bit (set bits x false)) same ∙ get_or-set_same bits x false false x_within) ∙ marked) in
+      let at = owns.listed y (sym (get_or-set_other bits x y false false differ) ∙ marked) in
+      (at.0, after at.0 at.1.0 y differ at.1.1);
 }
   where
     x_within : x < length bits
@@ -90,8 +90,13 @@ with-first : (l : List ℕ) (ls : List (List ℕ)) → ((bits : List Bool) → O
     → (bits : List Bool) → Owns (l ∷ ls) bits → marked_count bits ≡ sum_by length (l ∷ ls)
 with-first [] ls rest bits owns = omega (arith, rest bits (owns-tail ls bits owns), sum_by-cons (length {A = ℕ}) [] ls)
 with-first (x ∷ l) ls rest bits owns =
-    omega (arith, one-less bits x (owns.marked 0 0 x refl), with-first l ls rest (set bits x false) (owns-behead x l ls bits owns),
-        sum_by-cons (length {A = ℕ}) (x ∷ l) ls, sum_by-cons (length {A = ℕ}) l ls)
+    omega (
+      arith,
+      one-less bits x (owns.marked 0 0 x refl),
+      with-first l ls rest (set bits x false) (owns-behead x l ls bits owns),
+      sum_by-cons (length {A = ℕ}) (x ∷ l) ls,
+      sum_by-cons (length {A = ℕ}) l ls,
+    )
 
 -- there are as many marked items as listed ones
 pub used_are : (lists : List (List ℕ)) (bits : List Bool) → Owns lists bits → count_by (λ b. b) bits ≡ sum_by length lists

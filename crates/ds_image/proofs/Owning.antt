@@ -1,13 +1,13 @@
 -- How ownership follows the lists and the marks: items given to an object, items that it gives up, and what lists determine.
-use Rattle.std.proofs.Common.{◌≡◌, ◌≢◌, ℕ, zero, suc, ◌+◌, ◌<◌, ◌≤◌, ◌⊎◌, Bool, true, false, List, [], ◌∷◌, ◌++◌, length, get_or, set, replicate, inl, inr, refl, sym, ap, ◌∙◌, subst, arith}
-use Rattle.std.specs.Prelude.{Contains, Some, None, slice_get}
+use Rattle.std.proofs.Common.{◌≡◌, ℕ, zero, suc, ◌+◌, ◌<◌, ◌⊎◌, Bool, true, false, List, [], ◌∷◌, ◌++◌, length, get_or, set, replicate, inl, inr, refl, sym, ap, ◌∙◌, subst, arith}
+use Rattle.std.specs.Prelude.{Some, slice_get}
 use Rattle.std.proofs.lemmas.Bool.{cases_lt, cases_eq, cases_Bool, false≢true}
-use Rattle.std.proofs.lemmas.List.{append-nil, get_or_past, get_or_default, get_or-set_same, get_or-set_other, get_or_append_left, get_or_push, get_or-append_right, get_or-replicate, ext_get_or, length_push}
-use Rattle.std.proofs.lemmas.Option.{slice_get_within, slice_get_past}
+use Rattle.std.proofs.lemmas.List.{get_or_past, get_or_default, get_or-set_same, get_or-set_other, get_or_append_left, get_or_push, get_or-append_right, ext_get_or, length_push}
+use Rattle.std.proofs.lemmas.Option.{slice_get_within}
 use Rattle.ds_image.specs.Owns.{list_of, IsAt, bit, Owns}
 use Rattle.ds_image.specs.Owned.{AddsItems, CanMark, AddsMarks, ClearsMarks, with_marks}
 use Rattle.ds_image.proofs.Places.{at-append, at-append_left, at-append_right, Contains-from_at, at-from_Contains, marked-within, bit-at, bit-from_at}
-use Rattle.ds_image.proofs.Marking.{adds-one, clears-one, adds-many, clears-many, can-one}
+use Rattle.ds_image.proofs.Marking.{adds-many, clears-many, can-one}
 
 -- Places of items when an object lists more
 
@@ -15,24 +15,25 @@ module _ (lists : List (List ℕ)) (o : ℕ) (items : List ℕ) (more : List (Li
   pub at-old : (p i x : ℕ) → IsAt lists p i x → IsAt more p i x
   at-old p i x at = elim (cases_eq p o) [
     | inl same ↦
-      let here : IsAt lists o i x = subst (λ q. IsAt lists q i x) same at in
-      let kept : slice_get (list_of lists o ++ items) i ≡ Some x = at-append_left (list_of lists o) items i x here in
-      subst (λ q. IsAt more q i x) (sym same) (subst (λ l. slice_get l i ≡ Some x) (sym adds.here) kept)
+        let here : IsAt lists o i x = subst (λ q. IsAt lists q i x) same at in
+        let kept : slice_get (list_of lists o ++ items) i ≡ Some x = at-append_left (list_of lists o) items i x here in
+        subst (λ q. IsAt more q i x) (sym same) (subst (λ l. slice_get l i ≡ Some x) (sym adds.here) kept)
     | inr apart ↦ subst (λ l. slice_get l i ≡ Some x) (sym (adds.elsewhere p apart)) at
   ]
 
   pub at-new : (j x : ℕ) → slice_get items j ≡ Some x → IsAt more o (length (list_of lists o) + j) x
-  at-new j x at = subst (λ l. slice_get l (length (list_of lists o) + j) ≡ Some x) (sym adds.here) (at-append_right (list_of lists o) items j x at)
+  at-new j x at = subst (λ l. slice_get l (length (list_of lists o) + j) ≡ Some x) (sym adds.here)
+      (at-append_right (list_of lists o) items j x at)
 
   pub at-more : (p i x : ℕ) → IsAt more p i x
       → IsAt lists p i x ⊎ ((j : ℕ) × (p ≡ o) × (i ≡ length (list_of lists o) + j) × (slice_get items j ≡ Some x))
   at-more p i x at = elim (cases_eq p o) [
     | inl same ↦
-      let here : IsAt more o i x = subst (λ q. IsAt more q i x) same at in
-      elim (at-append (list_of lists o) items i x (subst (λ l. slice_get l i ≡ Some x) adds.here here)) [
-        | inl old ↦ inl (subst (λ q. IsAt lists q i x) (sym same) old)
-        | inr new ↦ inr (new.0, same, new.1, new.2)
-      ]
+        let here : IsAt more o i x = subst (λ q. IsAt more q i x) same at in
+        elim (at-append (list_of lists o) items i x (subst (λ l. slice_get l i ≡ Some x) adds.here here)) [
+          | inl old ↦ inl (subst (λ q. IsAt lists q i x) (sym same) old)
+          | inr new ↦ inr (new.0, same, new.1, new.2)
+        ]
     | inr apart ↦ inl (subst (λ l. slice_get l i ≡ Some x) (adds.elsewhere p apart) at)
   ]
 
@@ -76,30 +77,31 @@ module _ (lists : List (List ℕ)) (o : ℕ) (items : List ℕ) (more : List (Li
       once = λ p i q j x one two. owns.once p i q j x (at-old p i x one) (at-old q j x two);
       marked = λ p i x at. (marks.marks x).1 (
         owns.marked p i x (at-old p i x at),
-        λ held. let new = at-from_Contains items x held in not-twice bits owns p i new.0 x at new.1);
+        λ held. let new = at-from_Contains items x held in not-twice bits owns p i new.0 x at new.1,
+      );
       listed = λ x marked.
-        let was = (marks.marks x).0 marked in
-        let at = owns.listed x was.0 in
-        elim (at-more at.0 at.1.0 x at.1.1) [
-          | inl old ↦ (at.0, (at.1.0, old))
-          | inr new ↦ absurd (was.1 (Contains-from_at items new.0 x new.3))
-        ];
+          let was = (marks.marks x).0 marked in
+          let at = owns.listed x was.0 in
+          elim (at-more at.0 at.1.0 x at.1.1) [
+            | inl old ↦ (at.0, (at.1.0, old))
+            | inr new ↦ absurd (was.1 (Contains-from_at items new.0 x new.3))
+          ];
     }
 
     -- where ownership holds before and after, the items could be marked, and just they are
     pub can-from_owns : Owns lists bits → Owns more after → length after ≡ length bits → CanMark bits items
     can-from_owns owns owns' count = record {
       clear = λ i x at.
-        let marked = owns'.marked o (length (list_of lists o) + i) x (at-new i x at) in
-        let within : x < length bits = omega (arith, marked-within after x marked, count) in
-        let clear : bit bits x ≡ false = elim (cases_Bool (bit bits x)) [
-          | inl was ↦ let old = owns.listed x was in absurd (not-twice after owns' old.0 old.1.0 i x old.1.1 at)
-          | inr clear ↦ clear
-        ] in
-        bit-at bits x within ∙ ap Some clear;
+          let marked = owns'.marked o (length (list_of lists o) + i) x (at-new i x at) in
+          let within : x < length bits = omega (arith, marked-within after x marked, count) in
+          let clear : bit bits x ≡ false = elim (cases_Bool (bit bits x)) [
+            | inl was ↦ let old = owns.listed x was in absurd (not-twice after owns' old.0 old.1.0 i x old.1.1 at)
+            | inr clear ↦ clear
+          ] in
+          bit-at bits x within ∙ ap Some clear;
       once = λ i j x one two.
-        let same = owns'.once o (length (list_of lists o) + i) o (length (list_of lists o) + j) x (at-new i x one) (at-new j x two) in
-        omega (arith, same.1);
+          let same = owns'.once o (length (list_of lists o) + i) o (length (list_of lists o) + j) x (at-new i x one) (at-new j x two) in
+          omega (arith, same.1);
     }
 
     pub adds-from_owns : Owns lists bits → Owns more after → length after ≡ length bits → AddsMarks bits items after
@@ -107,20 +109,22 @@ module _ (lists : List (List ℕ)) (o : ℕ) (items : List ℕ) (more : List (Li
       count = count;
       marks = λ x. (
         λ marked.
-          let at = owns'.listed x marked in
-          elim (at-more at.0 at.1.0 x at.1.1) [
-            | inl old ↦ inl (owns.marked at.0 at.1.0 x old)
-            | inr new ↦ inr (Contains-from_at items new.0 x new.3)
-          ],
+            let at = owns'.listed x marked in
+            elim (at-more at.0 at.1.0 x at.1.1) [
+              | inl old ↦ inl (owns.marked at.0 at.1.0 x old)
+              | inr new ↦ inr (Contains-from_at items new.0 x new.3)
+            ],
         λ either. elim either [
           | inl was ↦ let at = owns.listed x was in owns'.marked at.0 at.1.0 x (at-old at.0 at.1.0 x at.1.1)
           | inr held ↦ let at = at-from_Contains items x held in owns'.marked o (length (list_of lists o) + at.0) x (at-new at.0 x at.1)
-        ]);
+        ],
+      );
     }
 
 -- Which lists have more items
 
-pub adds-list : (lists : List (List ℕ)) (o : ℕ) (items : List ℕ) → o < length lists → AddsItems lists o items (set lists o (list_of lists o ++ items))
+pub adds-list : (lists : List (List ℕ)) (o : ℕ) (items : List ℕ) → o < length lists
+    → AddsItems lists o items (set lists o (list_of lists o ++ items))
 adds-list lists o items within = record {
   here = get_or-set_same lists o (list_of lists o ++ items) [] within;
   elsewhere = λ p apart. get_or-set_other lists o p (list_of lists o ++ items) [] apart;
@@ -132,13 +136,14 @@ adds-last lists items = record {
   elsewhere = λ p apart. elim (cases_lt p (length lists)) [
     | inl before ↦ get_or_append_left lists (items ∷ []) [] p before
     | inr past ↦
-      let above : length lists < p = omega arith in
-      get_or_past (lists ++ items ∷ []) p [] (omega (arith, length_push lists items, above)) ∙ sym (get_or_past lists p [] past)
+        let above : length lists < p = omega arith in
+        get_or_past (lists ++ items ∷ []) p [] (omega (arith, length_push lists items, above)) ∙ sym (get_or_past lists p [] past)
   ];
 }
 
 -- an object that lists some items and then more lists them added to the first
-pub adds-back : (lists : List (List ℕ)) (o : ℕ) (kept items : List ℕ) → o < length lists → list_of lists o ≡ kept ++ items → AddsItems (set lists o kept) o items lists
+pub adds-back : (lists : List (List ℕ)) (o : ℕ) (kept items : List ℕ) → o < length lists → list_of lists o ≡ kept ++ items
+    → AddsItems (set lists o kept) o items lists
 adds-back lists o kept items within is = record {
   here = is ∙ ap (λ l. l ++ items) (sym (get_or-set_same lists o kept [] within));
   elsewhere = λ p apart. sym (get_or-set_other lists o p kept [] apart);
@@ -150,7 +155,7 @@ pub owns-grown_by : (lists : List (List ℕ)) (bits : List Bool) (o : ℕ) (item
     → Owns (set lists o (list_of lists o ++ items)) (with_marks bits items true)
 owns-grown_by lists bits o items within can owns =
     owns-adds lists o items (set lists o (list_of lists o ++ items)) (adds-list lists o items within) bits (with_marks bits items true) can
-        (adds-many bits items (λ i x at. slice_get_within bits x false (can.clear i x at))) owns
+    (adds-many bits items (λ i x at. slice_get_within bits x false (can.clear i x at))) owns
 
 pub owns-grown : (lists : List (List ℕ)) (bits : List Bool) (o x : ℕ) → o < length lists → get_or bits x true ≡ false → Owns lists bits
     → Owns (set lists o (list_of lists o ++ x ∷ [])) (set bits x true)
@@ -169,8 +174,8 @@ pub owns-given_up : (lists : List (List ℕ)) (bits : List Bool) (o : ℕ) (kept
 owns-given_up lists bits o kept items within is owns =
     let adds = adds-back lists o kept items within is in
     owns-gives (set lists o kept) o items lists adds bits (with_marks bits items false) owns
-        (clears-many bits items (λ i x at. marked-within bits x
-            (owns.marked o (length (list_of (set lists o kept) o) + i) x (at-new (set lists o kept) o items lists adds i x at))))
+    (clears-many bits items (λ i x at. marked-within bits x
+    (owns.marked o (length (list_of (set lists o kept) o) + i) x (at-new (set lists o kept) o items lists adds i x at))))
 
 pub owns-shrunk : (lists : List (List ℕ)) (bits : List Bool) (o x : ℕ) (kept : List ℕ) → o < length lists → list_of lists o ≡ kept ++ x ∷ []
     → Owns lists bits → Owns (set lists o kept) (set bits x false)
@@ -184,13 +189,14 @@ owns-removed lists bits o within owns = owns-given_up lists bits o [] (list_of l
 -- What lists determine
 
 -- ownership speaks of each object's list alone
-pub owns-alike : (lists more : List (List ℕ)) (bits : List Bool) → ((o : ℕ) → list_of more o ≡ list_of lists o) → Owns lists bits → Owns more bits
+pub owns-alike : (lists more : List (List ℕ)) (bits : List Bool) → ((o : ℕ) → list_of more o ≡ list_of lists o) → Owns lists bits
+    → Owns more bits
 owns-alike lists more bits same owns = record {
   once = λ o i p j x one two. owns.once o i p j x (back o i x one) (back p j x two);
   marked = λ o i x at. owns.marked o i x (back o i x at);
   listed = λ x marked.
-    let at = owns.listed x marked in
-    (at.0, (at.1.0, subst (λ l. slice_get l at.1.0 ≡ Some x) (sym (same at.0)) at.1.1));
+      let at = owns.listed x marked in
+      (at.0, (at.1.0, subst (λ l. slice_get l at.1.0 ≡ Some x) (sym (same at.0)) at.1.1));
 }
   where
     back : (o i x : ℕ) → IsAt more o i x → IsAt lists o i x

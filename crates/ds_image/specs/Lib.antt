@@ -7,13 +7,16 @@ pub mod Listers
 pub mod Logical
 pub mod Looks
 pub mod Metadata
+pub mod KnownUsers
 pub mod NameCounts
 pub mod Objects
 pub mod Owned
 pub mod Owns
+pub mod ParentWalks
 pub mod Parents
 pub mod Parts
 pub mod Pending
 pub mod Readings
 pub mod Sound
+pub mod TreeParents
 pub mod Users

@@ -6,9 +6,15 @@ mod guards;
 mod images;
 mod logical;
 mod marks;
+mod name_counts;
+mod parents;
 mod reads;
+mod users;
 
 pub use guards::guard;
 pub use images::{Image, ImageFault};
 pub use logical::overlay;
 pub use marks::Marks;
+pub use name_counts::NameCounts;
+pub use parents::reached;
+pub use users::Users;

@@ -77,6 +77,7 @@ impl Marks {
         ensures exact { IsTrue result ↔ CanMark self.old items.now }
         ensures marked { result ≡ true → AddsMarks self.old items.now self.new }
         ensures stops { result ≡ false → (n : ℕ) × StopsMarking self.old items.now n self.new }
+        ensures count { length self.new ≡ length self.old }
 
         // Where the marks are those of the lists before, they are those of all lists after it, or no marks are.
         ensures owns { result ≡ true → (lists : List (List ℕ)) → Owns lists self.old → Owns (lists ++ items.now ∷ []) self.new }
@@ -104,5 +105,39 @@ impl Marks {
     {
         let rest = &self.marked[first.min(self.marked.len())..];
         bits.len() <= rest.len() && &rest[..bits.len()] == bits
+    }
+}
+
+#[cfg(test)]
+mod tests {
+    use super::*;
+    use std::test::Fail;
+
+    #[test]
+    fn marks_list_after_list(rt: HostRuntime) -> Result<(), Fail> {
+        let mut marks = Marks::new(rt.alloc(), 8)?;
+        assert!(rt; marks.mark_list(&[5, 0]));
+        assert!(rt; marks.mark_list(&[]));
+        assert!(rt; marks.mark_list(&[7, 2, 1]));
+        assert!(rt; marks.are(&[true, true, true, false, false, true, false, true]));
+        assert!(rt; !marks.are(&[true, true, true, false, false, true, false]));
+        assert!(rt; marks.are_from(5, &[true, false, true]));
+        assert!(rt; !marks.are_from(6, &[false, true, false]));
+        assert!(rt; marks.are_from(9, &[]));
+        assert!(rt; marks.is_marked(7));
+        assert!(rt; !marks.is_marked(8));
+        Ok(())
+    }
+
+    #[test]
+    fn stops_at_an_item_listed_twice_or_not_there(rt: HostRuntime) -> Result<(), Fail> {
+        let mut marks = Marks::new(rt.alloc(), 4)?;
+        assert!(rt; !marks.mark_list(&[1, 3, 1]));
+        assert!(rt; marks.are(&[false, true, false, true]));
+        assert!(rt; !marks.mark_list(&[0, 3, 2]));
+        assert!(rt; marks.are(&[true, true, false, true]));
+        assert!(rt; !marks.mark_list(&[2, 4]));
+        assert!(rt; marks.are(&[true, true, true, true]));
+        Ok(())
     }
 }

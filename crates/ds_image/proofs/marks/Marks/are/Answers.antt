@@ -1,4 +1,4 @@
-use Rattle.std.proofs.Common.{◌∙◌, sym, ap}
+use Rattle.std.proofs.Common.{◌∙◌}
 use Rattle.ds_image.proofs.MarkedLists.{same-marks}
 use Rattle.ds_image.proofs.marks.Marks.are.Goals as goal
 

@@ -1,0 +1,14 @@
+use Rattle.std.proofs.Common.{◌≡◌, Some, set, length, true, [], ◌∷◌, ◌++◌, sym, ap, ◌∙◌, subst}
+use Rattle.std.proofs.lemmas.Bool.{cond-true}
+use Rattle.ds_image.specs.ParentWalks.{AreSettled}
+use Rattle.ds_image.proofs.WalkingParents.{settled-first}
+use Rattle.ds_image.proofs.parents.walks.Goals as goal
+
+pub loop-start-init : goal.loop-start-init
+loop-start-init c =
+    let pushed : c.push.new.self.items ≡ true ∷ [] =
+    c.push.ensures.items ∙ cond-true _ _ _ (sym c.in_ok-map_err.ensures.variant) ∙ ap (λ l. l ++ true ∷ []) c.new-leads.ensures.items in (
+      ap length pushed,
+      subst (AreSettled c.args.parents.now (set c.args.seen.now 0 (Some 0))) (sym pushed)
+          (settled-first c.args.parents.now c.args.seen.now c.requires.count c.requires.some c.requires.unseen),
+    )
