@@ -2,5 +2,9 @@
 #![tactic(auto)]
 
 mod findings;
+mod growing;
+mod reports;
+mod texts;
 
 pub use findings::Find;
+pub use reports::Report;
