@@ -4,7 +4,7 @@ use Rattle.std.specs.Prelude.{◌≡◌, ℕ, List, Option, slice_get}
 use Rattle.ds_base.specs.Decoding.{IsDecoded}
 use Rattle.ds_base.specs.declared.geometry.Geom.{Geom}
 use Rattle.ds_base.specs.declared.geometry.Kind.{Kind}
-use Rattle.ds_base.specs.declared.geometry.Kind.TheVariants.{Fd}
+use Rattle.ds_base.specs.declared.geometry.Kind.TheVariants.{Fd, Sb, Pb, Fb}
 use Rattle.ds_base.specs.declared.sectors.Sector.{Sector}
 use Rattle.ds_base.specs.Geometry.{clusters_of, items_of}
 use Rattle.ds_jrnl.specs.declared.index.Index.{Index}
@@ -23,8 +23,22 @@ pub record Controls : Type 0 where
   pub volume : Option (List ℕ)
   pub slots : List (Option Slot)
   pub descriptors : List (Option Header)
-  pub clusters : Kind → List (Option Header)
+  pub fd_clusters : List (Option Header)
+  pub sb_clusters : List (Option Header)
+  pub pb_clusters : List (Option Header)
+  pub fb_clusters : List (Option Header)
   pub pending : List (Option Index)
+
+-- the headers of a kind's clusters
+abbrev pub headers_of : Controls → Kind → List (Option Header)
+headers_of c Fd = c.fd_clusters
+headers_of c Sb = c.sb_clusters
+headers_of c Pb = c.pb_clusters
+headers_of c Fb = c.fb_clusters
+
+-- the header of a kind's cluster with a number spells this
+abbrev pub SpellsCluster : Geom → Look → Kind → ℕ → Header → Type 0
+SpellsCluster g look kind n = SpellsHeader g look (cluster_lock kind n)
 
 -- sector 1 spells this id
 abbrev pub SpellsId : Geom → Look → List ℕ → Type 0
@@ -40,6 +54,5 @@ pub record ReadsControls (g : Geom) (sectors : List Sector) (c : Controls) : Typ
   pub volume : IsDecoded c.volume (SpellsId g (slice_get sectors))
   pub slots : IsReading g.slots (SpellsSlot g (slice_get sectors)) c.slots
   pub descriptors : IsReading (items_of g Fd) (SpellsHeader g (slice_get sectors)) c.descriptors
-  pub clusters : (kind : Kind) →
-      IsReading (clusters_of g kind) (λ n. SpellsHeader g (slice_get sectors) (cluster_lock kind n)) (c.clusters kind)
+  pub clusters : (kind : Kind) → IsReading (clusters_of g kind) (SpellsCluster g (slice_get sectors) kind) (headers_of c kind)
   pub pending : IsReading g.slots (SpellsPending g sectors) c.pending

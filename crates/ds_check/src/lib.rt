@@ -1,8 +1,11 @@
 //! The checker of images: what is at odds in the sectors of a volume.
 #![tactic(auto)]
 
+mod controls;
 mod findings;
 mod growing;
+mod journals;
+mod marks;
 mod reports;
 mod texts;
 

@@ -1,12 +1,14 @@
 //! Reports of a check.
-ghost use Rattle.std.specs.Prelude.{◌≡◌, ◌++◌, OnOk, IfOk};
+ghost use Rattle.std.specs.Prelude.{◌≡◌, [], ◌∷◌, ◌++◌, OnOk, IfOk};
 ghost use Rattle.std.specs.List.{flat_map};
+ghost use Rattle.ds_check.specs.Rows.{find_if};
 ghost use Rattle.ds_check.specs.Texts.{report_text, find_line};
 
 use crate::findings::Find;
 use crate::growing::Growing;
 use crate::texts::write_find;
 use ds_base::NoMemory;
+use std::alloc::Global;
 use std::marker::Model;
 
 /// What a check found, which contracts see as the list of findings.
@@ -25,10 +27,26 @@ impl Model for Report {
 }
 
 impl Report {
-    pub(crate) fn of_findings(findings: Vec<Find>) -> Report
-        ensures { result ≡ findings.items }
+    /// A report without findings.
+    pub(crate) fn new(alloc: Global) -> Report
+        ensures { result ≡ [] }
     {
-        Report { findings }
+        Report {
+            findings: Vec::new(alloc),
+        }
+    }
+
+    pub(crate) fn note(&mut self, find: Find) -> Result<(), NoMemory>
+        ensures { OnOk result (self.new ≡ self.old ++ find ∷ []) }
+    {
+        self.findings.push(find).map_err(|_| NoMemory)
+    }
+
+    /// Notes a finding where there is one.
+    pub(crate) fn note_if(&mut self, found: bool, find: Find) -> Result<(), NoMemory>
+        ensures { OnOk result (self.new ≡ self.old ++ find_if found find) }
+    {
+        if found { self.note(find) } else { Ok(()) }
     }
 
     /// The findings in the order of the report.
@@ -75,31 +93,30 @@ mod tests {
 
     #[test]
     fn each_finding_is_a_line(rt: HostRuntime) -> Result<(), Fail> {
-        let none = Report::of_findings(Vec::new(rt.alloc()));
-        assert_eq!(rt; none.text()?.as_slice(), b"clean\n".as_slice());
+        let mut report = Report::new(rt.alloc());
+        assert_eq!(rt; report.text()?.as_slice(), b"clean\n".as_slice());
 
-        let mut finds = Vec::new(rt.alloc());
-        finds.push(Find::SectorForm { sector: 1 })?;
-        finds.push(Find::JournalsShare {
+        report.note(Find::SectorForm { sector: 1 })?;
+        report.note(Find::JournalsShare {
             first: 0,
             second: 3,
             sector: 147,
         })?;
-        finds.push(Find::Root)?;
-        finds.push(Find::Twice {
+        report.note_if(false, Find::Root)?;
+        report.note_if(true, Find::Root)?;
+        report.note(Find::Twice {
             kind: Kind::Fb,
             item: 0,
             first: 1,
             second: 2,
         })?;
-        finds.push(Find::Dangling {
+        report.note(Find::Dangling {
             object: 0,
             room: 5,
         })?;
-        let some = Report::of_findings(finds);
         let lines = b"sector 1 form\njournals 0 3 share 147\nroot\nfb 0 twice 1 2\nobject 0 room 5 dangling\n";
-        assert_eq!(rt; some.text()?.as_slice(), lines.as_slice());
-        assert_eq!(rt; some.findings().len(), 5);
+        assert_eq!(rt; report.text()?.as_slice(), lines.as_slice());
+        assert_eq!(rt; report.findings().len(), 5);
         Ok(())
     }
 }

@@ -72,7 +72,7 @@ numbered_at look at s Has Is spell r there read =
     decoded_as r _ _ (λ v d. (d.0, d.1, (s, there, d.2))) (λ v d. (d.0, d.1, sector_found look at s there (λ bytes. bytes ≡ spell v) d.2.0 d.2.1 d.2.2)) read
 
 -- a part put behind others is read at its place
-reading_push : {V : Type 0} (n : ℕ) (Spells : ℕ → V → Type 0) (xs : List (Option V)) (r : Option V) → IsReading n Spells xs → IsDecoded r (Spells n) → IsReading (suc n) Spells (xs ++ r ∷ [])
+pub reading_push : {V : Type 0} (n : ℕ) (Spells : ℕ → V → Type 0) (xs : List (Option V)) (r : Option V) → IsReading n Spells xs → IsDecoded r (Spells n) → IsReading (suc n) Spells (xs ++ r ∷ [])
 reading_push n Spells xs r read last = record {
   len = length-append xs (r ∷ []) ∙ omega (arith, read.len);
   each = λ i l.

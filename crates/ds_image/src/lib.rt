@@ -9,6 +9,7 @@ mod marks;
 mod name_counts;
 mod parents;
 mod reads;
+mod stores;
 mod users;
 
 pub use guards::guard;
@@ -17,4 +18,6 @@ pub use logical::overlay;
 pub use marks::Marks;
 pub use name_counts::NameCounts;
 pub use parents::reached;
+pub use reads::{header_at, index_of, sector_at, slot_at};
+pub use stores::Store;
 pub use users::Users;

@@ -1,0 +1,10 @@
+-- One more is decoded.
+use Rattle.std.proofs.Common.{◌≡◌, [], ◌∷◌, ◌++◌, rules}
+use Rattle.ds_check.specs.Controls.{SpellsPending}
+use Rattle.ds_check.proofs.Reading.{reading_more}
+use Rattle.ds_check.proofs.controls.pending_of.Goals as goal
+
+pub loop-number-preserved : goal.loop-number-preserved
+loop-number-preserved c =
+    let more : c.push.new.self.items ≡ c.loop-number.pending.items ++ c.pending_at.result ∷ [] = search rules in
+    reading_more c.loop-number.number (SpellsPending c.args.geom.now c.args.sectors.now) _ _ _ more c.loop-number.invariant c.pending_at.ensures

@@ -1,0 +1,10 @@
+-- One more is decoded.
+use Rattle.std.proofs.Common.{◌≡◌, [], ◌∷◌, ◌++◌, slice_get, rules}
+use Rattle.ds_image.specs.Readings.{SpellsSlot}
+use Rattle.ds_check.proofs.Reading.{reading_more}
+use Rattle.ds_check.proofs.controls.slots_of.Goals as goal
+
+pub loop-number-preserved : goal.loop-number-preserved
+loop-number-preserved c =
+    let more : c.push.new.self.items ≡ c.loop-number.slots.items ++ c.slot_at.result ∷ [] = search rules in
+    reading_more c.loop-number.number (SpellsSlot c.args.geom.now (slice_get c.args.sectors.now)) _ _ _ more c.loop-number.invariant c.slot_at.ensures
