@@ -20,3 +20,7 @@ row_step first mid last each n before now =
       let here : 0 + n ≡ n = omega arith in
       ap (range_with_len 0) next ∙ below_more 0 n ∙ ap (λ k. range_with_len 0 n ++ k ∷ []) here) in
     now ∙ ap (λ xs. xs ++ each n) before ∙ flat_map_more each first (range_with_len 0 n) n ∙ ap (λ xs. first ++ flat_map each xs) (sym numbers)
+
+-- what is found of the same two things is the same
+pub same_finds : {A B : Type 0} (finds : A → B → List Find) (a b : A) (x y : B) (mid last : List Find) → a ≡ b → x ≡ y → last ≡ mid ++ finds a x → last ≡ mid ++ finds b y
+same_finds finds a b x y mid last p q now = now ∙ ap (λ c. mid ++ finds c x) p ∙ ap (λ z. mid ++ finds b z) q

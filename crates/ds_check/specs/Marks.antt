@@ -6,7 +6,6 @@ use Rattle.ds_base.specs.declared.geometry.Kind.TheVariants.{Fd}
 use Rattle.ds_base.specs.Geometry.{clusters_of, items_of}
 use Rattle.ds_layout.specs.Places.{cluster_lock, place_sector}
 use Rattle.ds_layout.specs.declared.places.Place.TheVariants as places
-use Rattle.ds_marks.specs.declared.header.Header.{Header}
 use Rattle.ds_marks.specs.declared.header.Owner.{Owner}
 use Rattle.ds_marks.specs.declared.slot.Slot.{Slot}
 use Rattle.ds_marks.specs.declared.slot.SlotState.{SlotState}
@@ -14,7 +13,7 @@ use Rattle.ds_marks.specs.declared.slot.SlotState.TheVariants.{Free, Live, Break
 use Rattle.ds_image.specs.Parts.{part_at}
 use Rattle.ds_check.specs.declared.findings.Find.{Find}
 use Rattle.ds_check.specs.declared.findings.Find.TheVariants.{SectorForm, HeaderOwner, SlotBreaker}
-use Rattle.ds_check.specs.Controls.{Controls, headers_of}
+use Rattle.ds_check.specs.Controls.{Controls, owners_of}
 use Rattle.ds_check.specs.Rows.{find_if, row, row_of_kinds}
 
 -- whether the file system information is that of this volume
@@ -31,11 +30,11 @@ abbrev pub slot_form : Geom → Controls → ℕ → List Find
 slot_form g c n = find_if (is_none (part_at c.slots n)) (SectorForm (place_sector g (places.Slot n)))
 
 -- the header of a lock object without its form
-abbrev pub header_form : Geom → ℕ → Option Header → List Find
-header_form g object header = find_if (is_none header) (SectorForm (place_sector g (places.Header object)))
+abbrev pub header_form : Geom → ℕ → Option (Option Owner) → List Find
+header_form g object owner = find_if (is_none owner) (SectorForm (place_sector g (places.Header object)))
 
 abbrev pub cluster_form : Geom → Controls → Kind → ℕ → List Find
-cluster_form g c kind n = header_form g (cluster_lock kind n) (part_at (headers_of c kind) n)
+cluster_form g c kind n = header_form g (cluster_lock kind n) (part_at (owners_of c kind) n)
 
 abbrev pub descriptor_form : Geom → Controls → ℕ → List Find
 descriptor_form g c o = header_form g o (part_at c.descriptors o)
@@ -64,12 +63,12 @@ is_astray slots None = false
 is_astray slots (Some o) = if nat_lt o.slot (length slots) then is_before (part_at slots o.slot) o.generation else true
 
 -- a header whose owner is; one without its form tells nothing
-abbrev pub owner_finds : List (Option Slot) → ℕ → Option Header → List Find
+abbrev pub owner_finds : List (Option Slot) → ℕ → Option (Option Owner) → List Find
 owner_finds slots object None = []
-owner_finds slots object (Some h) = find_if (is_astray slots h.owner) (HeaderOwner object)
+owner_finds slots object (Some owner) = find_if (is_astray slots owner) (HeaderOwner object)
 
 abbrev pub cluster_owner : Controls → Kind → ℕ → List Find
-cluster_owner c kind n = owner_finds c.slots (cluster_lock kind n) (part_at (headers_of c kind) n)
+cluster_owner c kind n = owner_finds c.slots (cluster_lock kind n) (part_at (owners_of c kind) n)
 
 abbrev pub descriptor_owner : Controls → ℕ → List Find
 descriptor_owner c o = owner_finds c.slots o (part_at c.descriptors o)

@@ -2,32 +2,32 @@
 ghost use Rattle.std.specs.Prelude.{◌≡◌, ◌<◌, IfOk, is_some, length, slice_get};
 ghost use Rattle.ds_base.specs.Decoding.{IsDecoded};
 ghost use Rattle.ds_base.specs.Geometry.{IsGeom, clusters_of, items_of};
-ghost use Rattle.ds_layout.specs.Places.{cluster_lock, total_of};
+ghost use Rattle.ds_layout.specs.Places.{cluster_lock, total_of, IsLock};
 ghost use Rattle.ds_image.specs.Parts.{part_at};
-ghost use Rattle.ds_image.specs.Readings.{IsReading, SpellsSlot, SpellsHeader};
-ghost use Rattle.ds_check.specs.Controls.{headers_of, SpellsId, SpellsCluster, SpellsPending, ReadsControls};
+ghost use Rattle.ds_image.specs.Readings.{IsReading, SpellsSlot};
+ghost use Rattle.ds_check.specs.Controls.{owners_of, SpellsId, SpellsOwner, SpellsCluster, SpellsPending, ReadsControls};
 ghost use Rattle.ds_check.specs.Journals.{targets_of};
 
 use ds_base::{Geom, Kind, NoMemory, ObjNo, Sector, SlotNo};
 use ds_image::{header_at, index_of, sector_at, slot_at};
 use ds_jrnl::Index;
 use ds_layout::{Place, decode_fs};
-use ds_marks::{Header, Journal, Slot};
+use ds_marks::{Journal, Owner, Slot};
 use std::alloc::Global;
 use std::marker::Model;
 use uuid::Uuid;
 
-/// The file system information, the slots, the headers and the pending indexes of a volume, with nothing where a sector spells
-/// nothing.
+/// The id in the file system information of a volume, its slots, the owners in its headers and its pending indexes, with nothing
+/// where a sector spells nothing.
 #[derive(Drop)]
 pub(crate) struct ControlsInMemory {
     volume: Option<Uuid>,
     slots: Vec<Option<Slot>>,
-    descriptors: Vec<Option<Header>>,
-    fd_clusters: Vec<Option<Header>>,
-    sb_clusters: Vec<Option<Header>>,
-    pb_clusters: Vec<Option<Header>>,
-    fb_clusters: Vec<Option<Header>>,
+    descriptors: Vec<Option<Option<Owner>>>,
+    fd_clusters: Vec<Option<Option<Owner>>>,
+    sb_clusters: Vec<Option<Option<Owner>>>,
+    pb_clusters: Vec<Option<Option<Owner>>>,
+    fb_clusters: Vec<Option<Option<Owner>>>,
     pending: Vec<Option<Index>>,
 }
 
@@ -97,20 +97,20 @@ impl ControlsInMemory {
         *self.slots.get(usize::from(number))?
     }
 
-    pub(crate) fn descriptor(&self, object: ObjNo) -> Option<Header>
+    pub(crate) fn descriptor(&self, object: ObjNo) -> Option<Option<Owner>>
         ensures { result ≡ part_at self.now.descriptors object }
     {
         *self.descriptors.get(object as usize)?
     }
 
-    pub(crate) fn cluster(&self, kind: Kind, number: u8) -> Option<Header>
-        ensures { result ≡ part_at (headers_of self.now kind) number }
+    pub(crate) fn cluster(&self, kind: Kind, number: u8) -> Option<Option<Owner>>
+        ensures { result ≡ part_at (owners_of self.now kind) number }
     {
-        *self.headers(kind).get(usize::from(number))?
+        *self.owners(kind).get(usize::from(number))?
     }
 
-    fn headers(&self, kind: Kind) -> &[Option<Header>]
-        ensures { result.now ≡ headers_of self.now kind }
+    fn owners(&self, kind: Kind) -> &[Option<Option<Owner>>]
+        ensures { result.now ≡ owners_of self.now kind }
     {
         match kind {
             Kind::Fd => self.fd_clusters.as_slice(),
@@ -170,18 +170,31 @@ fn descriptors_of(
     alloc: Global,
     geom: &Geom,
     sectors: &[Sector],
-) -> Result<Vec<Option<Header>>, NoMemory>
+) -> Result<Vec<Option<Option<Owner>>>, NoMemory>
     requires geom { IsGeom geom.now }
     requires size { length sectors.now ≡ total_of geom.now }
-    ensures { IfOk result (λ v. IsReading (items_of geom.now Kind.Fd) (SpellsHeader geom.now (slice_get sectors.now)) v.items) }
+    ensures { IfOk result (λ v. IsReading (items_of geom.now Kind.Fd) (SpellsOwner geom.now (slice_get sectors.now)) v.items) }
 {
-    let mut headers = Vec::new(alloc);
+    let mut owners = Vec::new(alloc);
     for object in 0..descriptor_count(geom) {
-        headers
-            .push(header_at(geom, &sectors, object))
+        owners
+            .push(owner_at(geom, sectors, object))
             .map_err(|_| NoMemory)?;
     }
-    Ok(headers)
+    Ok(owners)
+}
+
+/// The owner in the header of a lock object.
+fn owner_at(geom: &Geom, sectors: &[Sector], object: ObjNo) -> Option<Option<Owner>>
+    requires geom { IsGeom geom.now }
+    requires size { length sectors.now ≡ total_of geom.now }
+    requires inside { IsLock geom.now object }
+    ensures { IsDecoded result (SpellsOwner geom.now (slice_get sectors.now) object) }
+{
+    match header_at(geom, &sectors, object) {
+        None => None,
+        Some(header) => Some(header.owner),
+    }
 }
 
 /// The number of descriptors.
@@ -196,18 +209,18 @@ fn clusters_of(
     geom: &Geom,
     sectors: &[Sector],
     kind: Kind,
-) -> Result<Vec<Option<Header>>, NoMemory>
+) -> Result<Vec<Option<Option<Owner>>>, NoMemory>
     requires geom { IsGeom geom.now }
     requires size { length sectors.now ≡ total_of geom.now }
     ensures { IfOk result (λ v. IsReading (clusters_of geom.now kind) (SpellsCluster geom.now (slice_get sectors.now) kind) v.items) }
 {
-    let mut headers = Vec::new(alloc);
+    let mut owners = Vec::new(alloc);
     for number in 0..cluster_count(geom, kind) {
-        headers
+        owners
             .push(cluster_at(geom, sectors, kind, number))
             .map_err(|_| NoMemory)?;
     }
-    Ok(headers)
+    Ok(owners)
 }
 
 /// The number of clusters of a kind.
@@ -217,13 +230,13 @@ pub(crate) fn cluster_count(geom: &Geom, kind: Kind) -> u8
     geom.clusters[kind as usize]
 }
 
-fn cluster_at(geom: &Geom, sectors: &[Sector], kind: Kind, number: u8) -> Option<Header>
+fn cluster_at(geom: &Geom, sectors: &[Sector], kind: Kind, number: u8) -> Option<Option<Owner>>
     requires geom { IsGeom geom.now }
     requires size { length sectors.now ≡ total_of geom.now }
     requires inside { number < clusters_of geom.now kind }
     ensures { IsDecoded result (SpellsCluster geom.now (slice_get sectors.now) kind number) }
 {
-    header_at(geom, &sectors, cluster_lock(kind, number))
+    owner_at(geom, sectors, cluster_lock(kind, number))
 }
 
 /// The lock object that a cluster is.

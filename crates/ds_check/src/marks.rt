@@ -28,7 +28,7 @@ use crate::findings::Find;
 use crate::reports::Report;
 use ds_base::{Gen, Geom, Kind, NoMemory, ObjNo, SlotNo};
 use ds_layout::{Place, sector_of};
-use ds_marks::{Header, Owner, Slot, SlotState};
+use ds_marks::{Owner, Slot, SlotState};
 use uuid::Uuid;
 
 /// Notes what is at odds in the file system information, the slots and the headers of a volume with this id.
@@ -115,14 +115,14 @@ fn note_header(
     report: &mut Report,
     geom: &Geom,
     object: ObjNo,
-    header: Option<Header>,
+    owner: Option<Option<Owner>>,
 ) -> Result<(), NoMemory>
     requires geom { IsGeom geom.now }
     requires inside { IsLock geom.now object }
-    ensures { OnOk result (report.new ≡ report.old ++ header_form geom.now object header) }
+    ensures { OnOk result (report.new ≡ report.old ++ header_form geom.now object owner) }
 {
     let sector = sector_of(geom, &Place::Header(object));
-    report.note_if(header.is_none(), Find::SectorForm { sector })
+    report.note_if(owner.is_none(), Find::SectorForm { sector })
 }
 
 fn note_all_clusters(
@@ -224,16 +224,13 @@ fn note_owner(
     report: &mut Report,
     controls: &ControlsInMemory,
     object: ObjNo,
-    header: Option<Header>,
+    owner: Option<Option<Owner>>,
 ) -> Result<(), NoMemory>
-    ensures { OnOk result (report.new ≡ report.old ++ owner_finds controls.now.slots object header) }
+    ensures { OnOk result (report.new ≡ report.old ++ owner_finds controls.now.slots object owner) }
 {
-    match header {
+    match owner {
         None => Ok(()),
-        Some(header) => report.note_if(
-            is_astray(controls, header.owner),
-            Find::HeaderOwner { object },
-        ),
+        Some(owner) => report.note_if(is_astray(controls, owner), Find::HeaderOwner { object }),
     }
 }
 

@@ -5,4 +5,4 @@ use Rattle.ds_check.specs.Controls.{SpellsCluster}
 use Rattle.ds_check.proofs.controls.clusters_of.Given as goal
 
 abbrev pub invariant-loop-number : goal.invariant-loop-number
-invariant-loop-number l = IsReading l.number (SpellsCluster l.geom (slice_get l.sectors) l.kind) l.headers.items
+invariant-loop-number l = IsReading l.number (SpellsCluster l.geom (slice_get l.sectors) l.kind) l.owners.items
