@@ -1,11 +1,13 @@
 pub mod BadSectors
 pub mod Decoded
+pub mod Fronts
 pub mod LaidOver
 pub mod Listed
 pub mod CountedNames
 pub mod MarkedLists
 pub mod Marking
 pub mod NotedUsers
+pub mod PartsRead
 pub mod OwnedCounts
 pub mod Owning
 pub mod OwningUsers

@@ -1,10 +1,12 @@
 //! Logical images.
-ghost use Rattle.std.specs.Prelude.{◌≡◌, Some, MatchOption, slice_get};
+ghost use Rattle.std.specs.Prelude.{◌≡◌, true, Some, MatchOption, slice_get, length};
+ghost use Rattle.ds_base.specs.Geometry.{IsGeom};
+ghost use Rattle.ds_layout.specs.Places.{blocks_at, IsPlace, place_sector};
 ghost use Rattle.ds_image.specs.ImageValues.{IsImage};
 ghost use Rattle.ds_image.specs.Metadata.{IsMetadata, is_metadata};
 
 use ds_base::{Geom, Sector, SectorNo};
-use ds_layout::{Place, place_of};
+use ds_layout::{Place, place_of, sector_of};
 use std::marker::Model;
 use thiserror::Error;
 
@@ -49,8 +51,9 @@ impl Image {
     }
 
     /// The geometry of the volume.
-    pub(crate) fn geom(&self) -> &Geom
+    pub fn geom(&self) -> &Geom
         ensures same { result.now ≡ self.now.geom }
+        ensures ranges { IsGeom result.now }
         ensures whole { IsImage self.now.geom self.now.sectors }
     {
         &self.geom
@@ -66,6 +69,16 @@ impl Image {
             return None;
         }
         self.sectors.get(at as usize)
+    }
+
+    /// The sector of a body, a bitmap, a sub-block or a pointer block, by its place.
+    #[tactic(auto, using(crate::proofs::Fronts::metadata_within))]
+    pub(crate) fn sector_at(&self, place: &Place) -> &Sector
+        requires inside { IsPlace self.now.geom place.now }
+        requires metadata { is_metadata place.now ≡ true }
+        ensures { slice_get self.now.sectors (place_sector self.now.geom place.now) ≡ Some result.now }
+    {
+        &self.sectors[sector_of(&self.geom, place) as usize]
     }
 }
 

@@ -1,0 +1,199 @@
+//! The parts of an image in memory.
+ghost use Rattle.std.specs.Prelude.{◌≡◌, ◌<◌, slice_get, IfOk};
+ghost use Rattle.ds_base.specs.Decoding.{IsDecoded};
+ghost use Rattle.ds_base.specs.Geometry.{IsGeom, clusters_of, items_of};
+ghost use Rattle.ds_base.specs.declared.geometry.Kind.TheVariants as kinds;
+ghost use Rattle.ds_image.specs.Parts.{maps_of};
+ghost use Rattle.ds_image.specs.Readings.{SpellsBody, SpellsBits, SpellsSub, SpellsPtr, IsReading, Reads};
+
+use crate::images::Image;
+use ds_base::{Geom, Kind, NoMemory, ObjNo};
+use ds_bitmap::Bits;
+use ds_dir::SubBlock;
+use ds_fd::Body;
+use ds_layout::Place;
+use ds_ptr::PtrBlock;
+use std::alloc::Global;
+use std::marker::Model;
+
+/// What the metadata of an image spell, by number, with nothing where a sector spells nothing.
+#[derive(Drop)]
+pub struct PartsInMemory {
+    bodies: Vec<Option<Body>>,
+    fd_maps: Vec<Option<Bits>>,
+    sb_maps: Vec<Option<Bits>>,
+    pb_maps: Vec<Option<Bits>>,
+    fb_maps: Vec<Option<Bits>>,
+    subs: Vec<Option<SubBlock>>,
+    ptrs: Vec<Option<PtrBlock>>,
+}
+
+impl Model for PartsInMemory {
+    ghost use Rattle.ds_image.specs.Parts.{Parts};
+
+    ghost Value = { Parts };
+
+    ghost view = { λ p. record {
+      bodies = p.bodies.items;
+      fd_maps = p.fd_maps.items;
+      sb_maps = p.sb_maps.items;
+      pb_maps = p.pb_maps.items;
+      fb_maps = p.fb_maps.items;
+      subs = p.subs.items;
+      ptrs = p.ptrs.items;
+    } };
+}
+
+impl PartsInMemory {
+    /// Decodes all bodies, bitmaps, sub-blocks and pointer blocks of an image.
+    pub fn read(alloc: Global, image: &Image) -> Result<PartsInMemory, NoMemory>
+        ensures { IfOk result (λ p. Reads image.now.geom (slice_get image.now.sectors) p) }
+    {
+        let bodies = bodies_of(alloc, image)?;
+        let fd_maps = maps_of(alloc, image, Kind::Fd)?;
+        let sb_maps = maps_of(alloc, image, Kind::Sb)?;
+        let pb_maps = maps_of(alloc, image, Kind::Pb)?;
+        let fb_maps = maps_of(alloc, image, Kind::Fb)?;
+        let subs = subs_of(alloc, image)?;
+        let ptrs = ptrs_of(alloc, image)?;
+        Ok(PartsInMemory {
+            bodies,
+            fd_maps,
+            sb_maps,
+            pb_maps,
+            fb_maps,
+            subs,
+            ptrs,
+        })
+    }
+
+    pub fn bodies(&self) -> &[Option<Body>]
+        ensures { result.now ≡ self.now.bodies }
+    {
+        self.bodies.as_slice()
+    }
+
+    /// The bitmaps of a kind's clusters.
+    pub fn maps(&self, kind: Kind) -> &[Option<Bits>]
+        ensures { result.now ≡ maps_of self.now kind }
+    {
+        match kind {
+            Kind::Fd => self.fd_maps.as_slice(),
+            Kind::Sb => self.sb_maps.as_slice(),
+            Kind::Pb => self.pb_maps.as_slice(),
+            Kind::Fb => self.fb_maps.as_slice(),
+        }
+    }
+
+    pub fn subs(&self) -> &[Option<SubBlock>]
+        ensures { result.now ≡ self.now.subs }
+    {
+        self.subs.as_slice()
+    }
+
+    pub fn ptrs(&self) -> &[Option<PtrBlock>]
+        ensures { result.now ≡ self.now.ptrs }
+    {
+        self.ptrs.as_slice()
+    }
+}
+
+fn bodies_of(alloc: Global, image: &Image) -> Result<Vec<Option<Body>>, NoMemory>
+    ensures { IfOk result (λ v. IsReading (items_of image.now.geom kinds.Fd)
+        (SpellsBody image.now.geom (slice_get image.now.sectors)) v.items) }
+{
+    let count = items_of_kind(image.geom(), Kind::Fd);
+    let mut bodies = Vec::with_capacity(alloc, count as usize).map_err(|_| NoMemory)?;
+    for object in 0..count {
+        bodies.push(body_of(image, object)).map_err(|_| NoMemory)?;
+    }
+    Ok(bodies)
+}
+
+fn maps_of(alloc: Global, image: &Image, kind: Kind) -> Result<Vec<Option<Bits>>, NoMemory>
+    ensures { IfOk result (λ v. IsReading (clusters_of image.now.geom kind)
+        (SpellsBits image.now.geom (slice_get image.now.sectors) kind) v.items) }
+{
+    let count = clusters_of_kind(image.geom(), kind);
+    let mut maps = Vec::with_capacity(alloc, usize::from(count)).map_err(|_| NoMemory)?;
+    for cluster in 0..count {
+        maps.push(bits_of(image, kind, cluster)).map_err(|_| NoMemory)?;
+    }
+    Ok(maps)
+}
+
+fn subs_of(alloc: Global, image: &Image) -> Result<Vec<Option<SubBlock>>, NoMemory>
+    ensures { IfOk result (λ v. IsReading (items_of image.now.geom kinds.Sb)
+        (SpellsSub image.now.geom (slice_get image.now.sectors)) v.items) }
+{
+    let count = items_of_kind(image.geom(), Kind::Sb);
+    let mut subs = Vec::with_capacity(alloc, count as usize).map_err(|_| NoMemory)?;
+    for number in 0..count {
+        subs.push(sub_of(image, number)).map_err(|_| NoMemory)?;
+    }
+    Ok(subs)
+}
+
+fn ptrs_of(alloc: Global, image: &Image) -> Result<Vec<Option<PtrBlock>>, NoMemory>
+    ensures { IfOk result (λ v. IsReading (items_of image.now.geom kinds.Pb)
+        (SpellsPtr image.now.geom (slice_get image.now.sectors)) v.items) }
+{
+    let count = items_of_kind(image.geom(), Kind::Pb);
+    let mut ptrs = Vec::with_capacity(alloc, count as usize).map_err(|_| NoMemory)?;
+    for number in 0..count {
+        ptrs.push(ptr_of(image, number)).map_err(|_| NoMemory)?;
+    }
+    Ok(ptrs)
+}
+
+/// The body that a descriptor's sector spells.
+#[tactic(auto, using(crate::proofs::Decoded::numbered_at))]
+fn body_of(image: &Image, object: ObjNo) -> Option<Body>
+    requires { object < items_of image.now.geom kinds.Fd }
+    ensures { IsDecoded result (SpellsBody image.now.geom (slice_get image.now.sectors) object) }
+{
+    let sector = image.sector_at(&Place::Body(object));
+    Body::decode(object, sector)
+}
+
+/// The bitmap that a cluster's sector spells.
+#[tactic(auto, using(crate::proofs::Decoded::spelled_at))]
+fn bits_of(image: &Image, kind: Kind, cluster: u8) -> Option<Bits>
+    requires { cluster < clusters_of image.now.geom kind }
+    ensures { IsDecoded result (SpellsBits image.now.geom (slice_get image.now.sectors) kind cluster) }
+{
+    let sector = image.sector_at(&Place::Bitmap { kind, cluster });
+    Bits::decode(image.geom(), kind, cluster, sector)
+}
+
+/// The sub-block that a sector spells.
+#[tactic(auto, using(crate::proofs::Decoded::spelled_at))]
+fn sub_of(image: &Image, number: u32) -> Option<SubBlock>
+    requires { number < items_of image.now.geom kinds.Sb }
+    ensures { IsDecoded result (SpellsSub image.now.geom (slice_get image.now.sectors) number) }
+{
+    let sector = image.sector_at(&Place::SubBlock(number));
+    SubBlock::decode(sector)
+}
+
+/// The pointer block that a sector spells.
+fn ptr_of(image: &Image, number: u32) -> Option<PtrBlock>
+    requires { number < items_of image.now.geom kinds.Pb }
+    ensures { IsDecoded result (SpellsPtr image.now.geom (slice_get image.now.sectors) number) }
+{
+    let sector = image.sector_at(&Place::PtrBlock(number));
+    Some(PtrBlock::decode(sector))
+}
+
+fn clusters_of_kind(geom: &Geom, kind: Kind) -> u8
+    ensures { result ≡ clusters_of geom.now kind }
+{
+    geom.clusters[kind as usize]
+}
+
+/// All items of a kind.
+fn items_of_kind(geom: &Geom, kind: Kind) -> u32
+    ensures { result ≡ items_of geom.now kind }
+{
+    u32::from(geom.clusters[kind as usize]) * u32::from(geom.items[kind as usize])
+}
