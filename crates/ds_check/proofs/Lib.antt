@@ -1,3 +1,4 @@
 pub mod Pending
 pub mod Reading
 pub mod Rows
+pub mod VolumeInfo

@@ -21,12 +21,17 @@ use Rattle.ds_check.specs.Rows.{find_if, row, row_of_kinds}
 
 -- Bodies and bitmaps
 
+-- a bitmap without its form
+abbrev pub bitmap_form : Geom → Parts → Kind → ℕ → List Find
+bitmap_form g p kind n = find_if (is_none (part_at (maps_of p kind) n)) (MetaForm (place_sector g (places.Bitmap kind n)))
+
+-- a body without its form
+abbrev pub body_form : Geom → Parts → ℕ → List Find
+body_form g p o = find_if (is_none (part_at p.bodies o)) (MetaForm (place_sector g (places.Body o)))
+
 -- the bitmaps and bodies without their form, by rising sector
 abbrev pub unread : Geom → Parts → List Find
-unread g p =
-    row_of_kinds (λ kind. row (clusters_of g kind) (λ n.
-        find_if (is_none (part_at (maps_of p kind) n)) (MetaForm (place_sector g (places.Bitmap kind n)))))
-    ++ row (items_of g Fd) (λ o. find_if (is_none (part_at p.bodies o)) (MetaForm (place_sector g (places.Body o))))
+unread g p = row_of_kinds (λ kind. row (clusters_of g kind) (bitmap_form g p kind)) ++ row (items_of g Fd) (body_form g p)
 
 abbrev pub is_dir : Option NodeKind → Bool
 is_dir (Some kinds.Dir) = true
@@ -37,8 +42,12 @@ abbrev pub is_root : Option Body → Bool
 is_root None = false
 is_root (Some b) = is_dir b.kind && (b.birth == 1)
 
+-- a root that is none
+abbrev pub root_finds : Parts → List Find
+root_finds p = find_if (not (is_root (part_at p.bodies 0))) Root
+
 abbrev pub metadata_stage : Geom → Parts → List Find
-metadata_stage g p = unread g p ++ find_if (not (is_root (part_at p.bodies 0))) Root
+metadata_stage g p = unread g p ++ root_finds p
 
 -- Addresses
 

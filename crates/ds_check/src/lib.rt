@@ -6,8 +6,10 @@ mod findings;
 mod growing;
 mod journals;
 mod marks;
+mod metadata;
 mod reports;
 mod texts;
+mod volumes;
 
 pub use findings::Find;
 pub use reports::Report;
