@@ -1,3 +1,4 @@
+pub mod FirstFound
 pub mod Pending
 pub mod Reading
 pub mod Rows

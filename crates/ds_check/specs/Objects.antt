@@ -58,8 +58,9 @@ is_outside items list i = nat_lt i (length list) && nat_le items (slice_index li
 -- the address of a file's block in its pointer block, where that is an item
 abbrev pub pointed_at : Parts → Body → ℕ → Option ℕ
 pointed_at p b i = elim (slice_get (ptrs_by b (Some kinds.File)) (i / 128)) [
-    None ↦ None
-  | Some n ↦ slice_get (addresses_in (part_at p.ptrs n)) (i % 128) ]
+  | None ↦ None
+  | Some n ↦ slice_get (addresses_in (part_at p.ptrs n)) (i % 128)
+]
 
 -- whether the address of a block is there and isn't one of so many items
 abbrev pub is_bad_block : ℕ → Option ℕ → Bool
@@ -69,8 +70,9 @@ is_bad_block items (Some block) = nat_le items block
 -- the addresses past a file's last block in its last pointer block
 abbrev pub past_last : Parts → Body → List ℕ
 past_last p b = elim (slice_get (ptrs_by b (Some kinds.File)) (b.count / 128)) [
-    None ↦ []
-  | Some n ↦ drop (b.count % 128) (addresses_in (part_at p.ptrs n)) ]
+  | None ↦ []
+  | Some n ↦ drop (b.count % 128) (addresses_in (part_at p.ptrs n))
+]
 
 -- the place among them of the first that isn't zero
 abbrev pub first_past : Parts → Body → ℕ
@@ -88,8 +90,8 @@ is_bad_address g p b (Some kinds.Dir) i = is_outside (items_of g Sb) (subs_by b 
 is_bad_address g p b (Some kinds.File) i =
     if nat_le b.count 96 then is_outside (items_of g Fb) (take b.count b.addresses) i
     else is_outside (items_of g Pb) (ptrs_by b (Some kinds.File)) i
-        || (nat_lt i b.count && is_bad_block (items_of g Fb) (pointed_at p b i))
-        || is_first_past p b i
+    || (nat_lt i b.count && is_bad_block (items_of g Fb) (pointed_at p b i))
+    || is_first_past p b i
 
 -- the most addresses that a body has, those in its pointer blocks among them
 abbrev pub most_addresses : ℕ

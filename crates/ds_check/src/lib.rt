@@ -3,6 +3,7 @@
 
 mod controls;
 mod findings;
+mod fronts;
 mod growing;
 mod journals;
 mod marks;
