@@ -1,5 +1,5 @@
 -- The stages of the logical image: bodies and bitmaps, addresses, items, entries and names.
-use Rattle.std.specs.Prelude.{◌≡◌, ℕ, ◌+◌, ◌*◌, ◌/◌, ◌%◌, Bool, true, false, not, ◌==◌, ◌&&◌, ◌||◌, nat_le, nat_lt, is_none, if◌then◌else◌, List, [], ◌∷◌, ◌++◌, length, map, take, drop, filter, slice_get, slice_index, slice_index_or, count_by, Option, Some, None, bytes_eq}
+use Rattle.std.specs.Prelude.{ℕ, ◌+◌, ◌*◌, ◌/◌, ◌%◌, Bool, true, false, not, ◌==◌, ◌&&◌, ◌||◌, nat_le, nat_lt, is_none, if◌then◌else◌, List, [], ◌∷◌, ◌++◌, length, map, take, drop, slice_get, slice_index, slice_index_or, count_by, Option, Some, None, bytes_eq}
 use Rattle.std.specs.List.{flat_map, filter_map, list_any, position_or_len, range_with_len}
 use Rattle.ds_base.specs.declared.geometry.Geom.{Geom}
 use Rattle.ds_base.specs.declared.geometry.Kind.{Kind}

@@ -25,5 +25,4 @@ pub ptr_read : (look : Look) (at : ℕ) (s : Sector) (p : PtrBlock) → look at 
 ptr_read look at s p there spelled fits =
     spelled_at look at s IsPtrBlock ptr_bytes (Some p) there (λ b. (
       λ e. let same : p ≡ b = cc in subst (λ (q : PtrBlock). IsPtrBlock q × (s.bytes ≡ ptr_bytes q)) same (fits, spelled),
-      λ d. ap Some (ptr_same p b fits d.0 (sym spelled ∙ d.1)),
-    ))
+      λ d. ap Some (ptr_same p b fits d.0 (sym spelled ∙ d.1))))

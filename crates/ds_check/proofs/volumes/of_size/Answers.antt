@@ -1,6 +1,5 @@
 -- There are other sectors than the volume has, or just those.
-use Rattle.std.proofs.Common.{◌≡◌, length, min, rules, arith}
-use Rattle.ds_layout.specs.Places.{total_of}
+use Rattle.std.proofs.Common.{arith}
 use Rattle.ds_check.proofs.VolumeInfo.{other_size}
 use Rattle.ds_check.proofs.volumes.of_size.Goals as goal
 
