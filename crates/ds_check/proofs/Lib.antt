@@ -1,0 +1,5 @@
+pub mod FirstFound
+pub mod Pending
+pub mod Reading
+pub mod Rows
+pub mod VolumeInfo

@@ -20,9 +20,13 @@ abbrev pub is_committed : Option Slot → Bool
 is_committed None = false
 is_committed (Some s) = has_pairs s.journal
 
--- the committed slots without an index as it has to be
+-- a committed slot without an index as it has to be
+abbrev pub journal_form : Controls → ℕ → List Find
+journal_form c n = find_if (is_committed (part_at c.slots n) && is_none (part_at c.pending n)) (JournalForm n)
+
+-- the journals of these slots, by rising number
 abbrev pub unindexed : Geom → Controls → List Find
-unindexed g c = row g.slots (λ n. find_if (is_committed (part_at c.slots n) && is_none (part_at c.pending n)) (JournalForm n))
+unindexed g c = row g.slots (journal_form c)
 
 -- the targets of a slot's pending pairs
 abbrev pub targets_of : Option Index → List ℕ
@@ -33,16 +37,23 @@ targets_of (Some x) = x.targets.items
 abbrev pub in_common : List ℕ → List ℕ → List ℕ
 in_common targets others = filter (λ target. list_any (λ other. other == target) others) targets
 
+-- the targets that two slots have in common, as findings
+abbrev pub shares : ℕ → ℕ → List ℕ → List ℕ → List Find
+shares first second targets others = map (λ target. JournalsShare first second target) (in_common targets others)
+
+-- those of a slot and of one behind it
 abbrev pub shared_targets : Controls → ℕ → ℕ → List Find
 shared_targets c first second =
-    if nat_lt first second
-    then map (λ target. JournalsShare first second target)
-        (in_common (targets_of (part_at c.pending first)) (targets_of (part_at c.pending second)))
+    if nat_lt first second then shares first second (targets_of (part_at c.pending first)) (targets_of (part_at c.pending second))
     else []
+
+-- those of a slot and of all slots behind it, by rising number
+abbrev pub shared_by : Geom → Controls → ℕ → List Find
+shared_by g c first = row g.slots (shared_targets c first)
 
 -- the targets that two slots have in common, by the first slot, the second and the target
 abbrev pub overlaid : Geom → Controls → List Find
-overlaid g c = row g.slots (λ first. row g.slots (λ second. shared_targets c first second))
+overlaid g c = row g.slots (shared_by g c)
 
 abbrev pub journals_stage : Geom → Controls → List Find
 journals_stage g c = unindexed g c ++ overlaid g c

@@ -4,3 +4,5 @@ pub mod Marks
 pub mod Journals
 pub mod Objects
 pub mod Findings
+pub mod Texts
+pub mod Volumes

@@ -1,20 +1,19 @@
 -- The first stage: the file system information, the slots and the headers.
-use Rattle.std.specs.Prelude.{ℕ, Bool, true, false, not, ◌==◌, ◌&&◌, ◌||◌, nat_lt, is_none, if◌then◌else◌, List, ◌++◌, length, Option, Some, None, bytes_eq}
+use Rattle.std.specs.Prelude.{ℕ, Bool, true, false, not, ◌==◌, ◌&&◌, ◌||◌, nat_lt, is_none, if◌then◌else◌, List, [], ◌++◌, length, Option, Some, None, bytes_eq}
 use Rattle.ds_base.specs.declared.geometry.Geom.{Geom}
 use Rattle.ds_base.specs.declared.geometry.Kind.{Kind}
 use Rattle.ds_base.specs.declared.geometry.Kind.TheVariants.{Fd}
 use Rattle.ds_base.specs.Geometry.{clusters_of, items_of}
 use Rattle.ds_layout.specs.Places.{cluster_lock, place_sector}
 use Rattle.ds_layout.specs.declared.places.Place.TheVariants as places
-use Rattle.ds_marks.specs.declared.header.Header.{Header}
 use Rattle.ds_marks.specs.declared.header.Owner.{Owner}
 use Rattle.ds_marks.specs.declared.slot.Slot.{Slot}
 use Rattle.ds_marks.specs.declared.slot.SlotState.{SlotState}
-use Rattle.ds_marks.specs.declared.slot.SlotState.TheVariants.{Free, Live, Breaking}
+use Rattle.ds_marks.specs.declared.slot.SlotState.TheVariants.{Free, Breaking}
 use Rattle.ds_image.specs.Parts.{part_at}
 use Rattle.ds_check.specs.declared.findings.Find.{Find}
 use Rattle.ds_check.specs.declared.findings.Find.TheVariants.{SectorForm, HeaderOwner, SlotBreaker}
-use Rattle.ds_check.specs.Controls.{Controls}
+use Rattle.ds_check.specs.Controls.{Controls, owners_of}
 use Rattle.ds_check.specs.Rows.{find_if, row, row_of_kinds}
 
 -- whether the file system information is that of this volume
@@ -22,14 +21,31 @@ abbrev pub names_volume : List ℕ → Option (List ℕ) → Bool
 names_volume id None = false
 names_volume id (Some named) = bytes_eq named id
 
+-- the file system information without its form, or with another volume's id
+abbrev pub info_form : Geom → List ℕ → Controls → List Find
+info_form g id c = find_if (not (names_volume id c.volume)) (SectorForm (place_sector g places.FsInfo))
+
+-- a slot without its form
+abbrev pub slot_form : Geom → Controls → ℕ → List Find
+slot_form g c n = find_if (is_none (part_at c.slots n)) (SectorForm (place_sector g (places.Slot n)))
+
+-- the header of a lock object without its form
+abbrev pub header_form : Geom → ℕ → Option (Option Owner) → List Find
+header_form g object owner = find_if (is_none owner) (SectorForm (place_sector g (places.Header object)))
+
+abbrev pub cluster_form : Geom → Controls → Kind → ℕ → List Find
+cluster_form g c kind n = header_form g (cluster_lock kind n) (part_at (owners_of c kind) n)
+
+abbrev pub descriptor_form : Geom → Controls → ℕ → List Find
+descriptor_form g c o = header_form g o (part_at c.descriptors o)
+
 -- the sectors without their form, by rising number
 abbrev pub unformed : Geom → List ℕ → Controls → List Find
 unformed g id c =
-    find_if (not (names_volume id c.volume)) (SectorForm (place_sector g places.FsInfo))
-    ++ row g.slots (λ n. find_if (is_none (part_at c.slots n)) (SectorForm (place_sector g (places.Slot n))))
-    ++ row_of_kinds (λ kind. row (clusters_of g kind) (λ n.
-        find_if (is_none (part_at (c.clusters kind) n)) (SectorForm (place_sector g (places.Header (cluster_lock kind n))))))
-    ++ row (items_of g Fd) (λ o. find_if (is_none (part_at c.descriptors o)) (SectorForm (place_sector g (places.Header o))))
+    info_form g id c
+    ++ row g.slots (slot_form g c)
+    ++ row_of_kinds (λ kind. row (clusters_of g kind) (cluster_form g c kind))
+    ++ row (items_of g Fd) (descriptor_form g c)
 
 abbrev pub is_free : SlotState → Bool
 is_free Free = true
@@ -46,15 +62,22 @@ abbrev pub is_astray : List (Option Slot) → Option Owner → Bool
 is_astray slots None = false
 is_astray slots (Some o) = if nat_lt o.slot (length slots) then is_before (part_at slots o.slot) o.generation else true
 
-abbrev pub owner_finds : List (Option Slot) → ℕ → Option Header → List Find
-owner_finds slots object None = find_if false (HeaderOwner object)
-owner_finds slots object (Some h) = find_if (is_astray slots h.owner) (HeaderOwner object)
+-- a header whose owner is; one without its form tells nothing
+abbrev pub owner_finds : List (Option Slot) → ℕ → Option (Option Owner) → List Find
+owner_finds slots object None = []
+owner_finds slots object (Some owner) = find_if (is_astray slots owner) (HeaderOwner object)
+
+abbrev pub cluster_owner : Controls → Kind → ℕ → List Find
+cluster_owner c kind n = owner_finds c.slots (cluster_lock kind n) (part_at (owners_of c kind) n)
+
+abbrev pub descriptor_owner : Controls → ℕ → List Find
+descriptor_owner c o = owner_finds c.slots o (part_at c.descriptors o)
 
 -- the headers whose owners are at odds with the slots, by rising lock object: descriptors, then clusters
 abbrev pub misowned : Geom → Controls → List Find
 misowned g c =
-    row (items_of g Fd) (λ o. owner_finds c.slots o (part_at c.descriptors o))
-    ++ row_of_kinds (λ kind. row (clusters_of g kind) (λ n. owner_finds c.slots (cluster_lock kind n) (part_at (c.clusters kind) n)))
+    row (items_of g Fd) (descriptor_owner c)
+    ++ row_of_kinds (λ kind. row (clusters_of g kind) (cluster_owner c kind))
 
 -- whether a slot's breaker is a slot that isn't there
 abbrev pub has_no_breaker : ℕ → SlotState → Bool
@@ -62,11 +85,15 @@ has_no_breaker slots (Breaking by generation) = not (nat_lt by slots)
 has_no_breaker slots _ = false
 
 abbrev pub breaker_finds : ℕ → ℕ → Option Slot → List Find
-breaker_finds slots number None = find_if false (SlotBreaker number)
+breaker_finds slots number None = []
 breaker_finds slots number (Some s) = find_if (has_no_breaker slots s.state) (SlotBreaker number)
 
+abbrev pub slot_breaker : Geom → Controls → ℕ → List Find
+slot_breaker g c n = breaker_finds g.slots n (part_at c.slots n)
+
+-- the slots whose breaker isn't there, by rising number
 abbrev pub misbroken : Geom → Controls → List Find
-misbroken g c = row g.slots (λ n. breaker_finds g.slots n (part_at c.slots n))
+misbroken g c = row g.slots (slot_breaker g c)
 
 abbrev pub marks_stage : Geom → List ℕ → Controls → List Find
 marks_stage g id c = unformed g id c ++ misowned g c ++ misbroken g c

@@ -1,6 +1,16 @@
 //! The checker of images: what is at odds in the sectors of a volume.
 #![tactic(auto)]
 
+mod controls;
 mod findings;
+mod fronts;
+mod growing;
+mod journals;
+mod marks;
+mod metadata;
+mod reports;
+mod texts;
+mod volumes;
 
 pub use findings::Find;
+pub use reports::Report;

@@ -24,6 +24,7 @@ mod rooted;
 mod seen;
 mod sound_objects;
 mod soundness;
+mod stores;
 #[cfg(test)]
 mod tree_tests;
 mod trees;
@@ -37,7 +38,10 @@ pub use logical::overlay;
 pub use marks::Marks;
 pub use name_counts::NameCounts;
 pub use parents::reached;
+pub use parts::PartsInMemory;
 pub use plans::Plan;
+pub use reads::{header_at, index_of, sector_at, slot_at};
 pub use seen::Seen;
+pub use stores::Store;
 pub use trees::read_tree;
 pub use users::Users;

@@ -18,7 +18,7 @@ use std::marker::Model;
 
 /// What the metadata of an image spell, by number, with nothing where a sector spells nothing.
 #[derive(Drop)]
-pub(crate) struct PartsInMemory {
+pub struct PartsInMemory {
     bodies: Vec<Option<Body>>,
     fd_maps: Vec<Option<Bits>>,
     sb_maps: Vec<Option<Bits>>,
@@ -46,7 +46,7 @@ impl Model for PartsInMemory {
 
 impl PartsInMemory {
     /// Decodes all bodies, bitmaps, sub-blocks and pointer blocks of an image.
-    pub(crate) fn read(alloc: Global, image: &Image) -> Result<PartsInMemory, NoMemory>
+    pub fn read(alloc: Global, image: &Image) -> Result<PartsInMemory, NoMemory>
         ensures { IfOk result (λ p. Reads image.now.geom (slice_get image.now.sectors) p) }
     {
         let bodies = bodies_of(alloc, image)?;
@@ -67,14 +67,14 @@ impl PartsInMemory {
         })
     }
 
-    pub(crate) fn bodies(&self) -> &[Option<Body>]
+    pub fn bodies(&self) -> &[Option<Body>]
         ensures { result.now ≡ self.now.bodies }
     {
         self.bodies.as_slice()
     }
 
     /// The bitmaps of a kind's clusters.
-    pub(crate) fn maps(&self, kind: Kind) -> &[Option<Bits>]
+    pub fn maps(&self, kind: Kind) -> &[Option<Bits>]
         ensures { result.now ≡ maps_of self.now kind }
     {
         match kind {
@@ -85,13 +85,13 @@ impl PartsInMemory {
         }
     }
 
-    pub(crate) fn subs(&self) -> &[Option<SubBlock>]
+    pub fn subs(&self) -> &[Option<SubBlock>]
         ensures { result.now ≡ self.now.subs }
     {
         self.subs.as_slice()
     }
 
-    pub(crate) fn ptrs(&self) -> &[Option<PtrBlock>]
+    pub fn ptrs(&self) -> &[Option<PtrBlock>]
         ensures { result.now ≡ self.now.ptrs }
     {
         self.ptrs.as_slice()

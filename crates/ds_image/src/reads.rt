@@ -1,4 +1,4 @@
-//! What the sectors of a device spell.
+//! What the sectors of a store spell.
 ghost use Rattle.std.specs.Prelude.{All, ◌≡◌, ◌<◌, ◌↔◌, Some, IsTrue, slice_get, length};
 ghost use Rattle.ds_base.specs.Decoding.{IsDecoded};
 ghost use Rattle.ds_base.specs.Geometry.{IsGeom};
@@ -9,73 +9,73 @@ ghost use Rattle.ds_image.specs.Pending.{IsIndexOf};
 ghost use Rattle.ds_image.specs.Readings.{SpellsSlot, SpellsHeader, SpellsIndex};
 
 use crate::images::is_metadata;
+use crate::stores::Store;
 use ds_base::{Gen, Geom, ObjNo, Sector, SectorNo, SlotNo};
 use ds_jrnl::Index;
 use ds_layout::{Place, place_of, sector_of};
-use ds_lun::MemLun;
 use ds_marks::{Header, Slot};
 
 /// The sector of a place.
 #[tactic(auto, using(ds_layout::proofs::SamePlace::place_within))]
-pub(crate) fn sector_at(geom: &Geom, lun: &MemLun, place: &Place) -> Sector
+pub fn sector_at<S: Store>(geom: &Geom, store: &S, place: &Place) -> Sector
     requires geom { IsGeom geom.now }
-    requires size { length lun.now ≡ total_of geom.now }
+    requires size { length (S.sectors store.now) ≡ total_of geom.now }
     requires inside { IsPlace geom.now place.now }
-    ensures { slice_get lun.now (place_sector geom.now place.now) ≡ Some result }
+    ensures { slice_get (S.sectors store.now) (place_sector geom.now place.now) ≡ Some result }
 {
-    lun.sector(sector_of(geom, place))
+    store.sector(sector_of(geom, place))
 }
 
 /// The slot that its sector spells.
 #[tactic(auto, using(crate::proofs::Decoded::spelled_at))]
-pub(crate) fn slot_at(geom: &Geom, lun: &MemLun, number: SlotNo) -> Option<Slot>
+pub fn slot_at<S: Store>(geom: &Geom, store: &S, number: SlotNo) -> Option<Slot>
     requires geom { IsGeom geom.now }
-    requires size { length lun.now ≡ total_of geom.now }
+    requires size { length (S.sectors store.now) ≡ total_of geom.now }
     requires inside { number < geom.now.slots }
-    ensures { IsDecoded result (SpellsSlot geom.now (slice_get lun.now) number) }
+    ensures { IsDecoded result (SpellsSlot geom.now (slice_get (S.sectors store.now)) number) }
 {
-    let sector = sector_at(geom, lun, &Place::Slot(number));
+    let sector = sector_at(geom, store, &Place::Slot(number));
     Slot::decode(number, &sector)
 }
 
 /// The header that a lock object's sector spells.
-pub(crate) fn header_at(geom: &Geom, lun: &MemLun, object: ObjNo) -> Option<Header>
+pub fn header_at<S: Store>(geom: &Geom, store: &S, object: ObjNo) -> Option<Header>
     requires geom { IsGeom geom.now }
-    requires size { length lun.now ≡ total_of geom.now }
+    requires size { length (S.sectors store.now) ≡ total_of geom.now }
     requires inside { IsLock geom.now object }
-    ensures { IsDecoded result (SpellsHeader geom.now (slice_get lun.now) object) }
+    ensures { IsDecoded result (SpellsHeader geom.now (slice_get (S.sectors store.now)) object) }
 {
-    let sector = sector_at(geom, lun, &Place::Header(object));
+    let sector = sector_at(geom, store, &Place::Header(object));
     Header::decode(object, &sector)
 }
 
 /// The index that the last sector of a slot's journal spells.
 #[tactic(auto, using(crate::proofs::Decoded::spelled_at))]
-fn index_at(geom: &Geom, lun: &MemLun, slot: SlotNo) -> Option<Index>
+fn index_at<S: Store>(geom: &Geom, store: &S, slot: SlotNo) -> Option<Index>
     requires geom { IsGeom geom.now }
-    requires size { length lun.now ≡ total_of geom.now }
+    requires size { length (S.sectors store.now) ≡ total_of geom.now }
     requires inside { slot < geom.now.slots }
-    ensures { IsDecoded result (SpellsIndex geom.now (slice_get lun.now) slot) }
+    ensures { IsDecoded result (SpellsIndex geom.now (slice_get (S.sectors store.now)) slot) }
 {
-    let sector = sector_at(geom, lun, &Place::Journal { slot, index: 31 });
+    let sector = sector_at(geom, store, &Place::Journal { slot, index: 31 });
     Index::decode(&sector)
 }
 
 /// The index of a slot's journal, where it is the one of this generation, transaction and count, and its targets are metadata.
-pub(crate) fn index_of(
+pub fn index_of<S: Store>(
     geom: &Geom,
-    lun: &MemLun,
+    store: &S,
     slot: SlotNo,
     generation: Gen,
     txn: u64,
     count: u8,
 ) -> Option<Index>
     requires geom { IsGeom geom.now }
-    requires size { length lun.now ≡ total_of geom.now }
+    requires size { length (S.sectors store.now) ≡ total_of geom.now }
     requires inside { slot < geom.now.slots }
-    ensures { IsDecoded result (IsIndexOf geom.now lun.now slot generation txn count) }
+    ensures { IsDecoded result (IsIndexOf geom.now (S.sectors store.now) slot generation txn count) }
 {
-    let index = index_at(geom, lun, slot)?;
+    let index = index_at(geom, store, slot)?;
     if index.slot != slot || index.generation != generation || index.txn != txn {
         return None;
     }

@@ -5,7 +5,7 @@ use Rattle.ds_image.proofs.BadSectors.{no_value}
 use Rattle.ds_image.proofs.bad_sectors.is_bad_place.Goals as goal
 
 pub returns-in-Header : goal.returns-in-Header
-returns-in-Header c =
+returns-in-Header g c =
     rw c.in-Header.is
-    (no_value c.header_at.result c.is_none-in-Header.result (SpellsHeader c.args.geom.now (slice_get c.args.lun.now) c.in-Header.object)
+    (no_value c.header_at.result c.is_none-in-Header.result (SpellsHeader c.args.geom.now (slice_get (g.S.Store.sectors c.args.store.now)) c.in-Header.object)
     c.is_none-in-Header.ensures c.header_at.ensures)

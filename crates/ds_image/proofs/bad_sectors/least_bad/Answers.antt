@@ -4,6 +4,6 @@ use Rattle.ds_image.proofs.BadSectors.{bad_within}
 use Rattle.ds_image.proofs.bad_sectors.least_bad.Goals as goal
 
 pub returns : goal.returns
-returns c = λ at bad.
-    let within = bad_within c.args.geom.now c.args.lun.now at c.requires.geom bad in
+returns g c = λ at bad.
+    let within = bad_within c.args.geom.now (g.S.Store.sectors c.args.store.now) at c.requires.geom bad in
     c.loop-at.invariant at (omega (arith, within, c.requires.end, c.loop-at-test.false, c.loop-at.auto)) bad

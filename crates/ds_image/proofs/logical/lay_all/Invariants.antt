@@ -3,4 +3,4 @@ use Rattle.ds_image.specs.Laying.{Lays, ArePendingBelow}
 use Rattle.ds_image.proofs.logical.lay_all.Given as goal
 
 abbrev pub invariant-loop-number : goal.invariant-loop-number
-invariant-loop-number l = Lays (ArePendingBelow l.geom l.lun l.number) l.initial.sectors l.sectors
+invariant-loop-number g l = Lays (ArePendingBelow l.geom (g.S.Store.sectors l.store) l.number) l.initial.sectors l.sectors

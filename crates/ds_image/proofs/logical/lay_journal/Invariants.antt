@@ -5,4 +5,4 @@ use Rattle.ds_image.specs.Pending.{AreJournalled}
 use Rattle.ds_image.proofs.logical.lay_journal.Given as goal
 
 abbrev pub invariant-loop-i : goal.invariant-loop-i
-invariant-loop-i l = Lays (AreJournalled l.geom l.lun l.slot (take l.i l.targets)) l.initial.sectors l.sectors
+invariant-loop-i g l = Lays (AreJournalled l.geom (g.S.Store.sectors l.store) l.slot (take l.i l.targets)) l.initial.sectors l.sectors

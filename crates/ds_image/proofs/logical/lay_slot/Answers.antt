@@ -4,11 +4,11 @@ use Rattle.ds_image.proofs.Laying.{lays_as, committed_pending}
 use Rattle.ds_image.proofs.logical.lay_slot.Goals as goal
 
 pub returns-in-Some : goal.returns-in-Some
-returns-in-Some c =
-    let g = c.args.geom.now in
-    let sectors = c.args.lun.now in
+returns-in-Some g c =
+    let geom = c.args.geom.now in
+    let sectors = g.S.Store.sectors c.args.store.now in
     let number = c.args.number in
     let index = c.in-Some.index in
-    lays_as (AreJournalled g sectors number c.as_slice.result.now) (ArePending g sectors number) c.args.sectors.now c.lay_journal.new.sectors
-    (λ pairs are. committed_pending g sectors number index pairs c.in-Some.ensures (rw (← c.as_slice.ensures.value) are))
+    lays_as (AreJournalled geom sectors number c.as_slice.result.now) (ArePending geom sectors number) c.args.sectors.now c.lay_journal.new.sectors
+    (λ pairs are. committed_pending geom sectors number index pairs c.in-Some.ensures (rw (← c.as_slice.ensures.value) are))
     c.lay_journal.ensures

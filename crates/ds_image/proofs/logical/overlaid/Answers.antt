@@ -5,16 +5,17 @@ use Rattle.ds_image.proofs.Laying.{first_block, items_after, image_laid}
 use Rattle.ds_image.proofs.logical.overlaid.Goals as goal
 
 pub sector_of-end-requires-clause-inside : goal.sector_of-end-requires-clause-inside
-sector_of-end-requires-clause-inside c = first_block c.args.geom.now c.requires.geom
+sector_of-end-requires-clause-inside g c = first_block c.args.geom.now c.requires.geom
 
 pub of_sectors-requires : goal.of_sectors-requires
-of_sectors-requires c =
-    let g = c.args.geom.now in
+of_sectors-requires g c =
+    let geom = c.args.geom.now in
+    let sectors = g.S.Store.sectors c.args.store.now in
     let before = c.in_ok-sectors.sectors in
     let after = c.lay_all.new.sectors in
     let whole : take before.len (after ++ drop (length after) before.items) ≡ after =
     items_after before.len after before.items (omega (arith, c.lay_all.auto.sectors, c.deref_mut.ensures.len, before.ok.0)) in
-    let lays : Lays (ArePendingBelow g c.args.lun.now g.slots) before.items after = rw (← c.deref_mut.ensures.value) c.lay_all.ensures in
+    let lays : Lays (ArePendingBelow geom sectors geom.slots) before.items after = rw (← c.deref_mut.ensures.value) c.lay_all.ensures in
     rw whole
-    (image_laid (ArePendingBelow g c.args.lun.now g.slots) g c.args.lun.now before.items after c.requires.geom c.requires.size
+    (image_laid (ArePendingBelow geom sectors geom.slots) geom sectors before.items after c.requires.geom c.requires.size
     c.in_ok-sectors.ensures.front c.in_ok-sectors.ensures.blocks lays)

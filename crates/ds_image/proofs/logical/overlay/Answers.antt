@@ -8,8 +8,10 @@ use Rattle.ds_image.proofs.OneLogical.{logical_once}
 use Rattle.ds_image.proofs.logical.overlay.Goals as goal
 
 pub returns-clause-only : goal.returns-clause-only
-returns-clause-only c = IfOk-weaker _
-    (λ (image : ImageValue). IsLogical c.args.geom.now c.args.lun.now image.sectors)
-    (λ (image : ImageValue). (other : List Sector) → IsLogical c.args.geom.now c.args.lun.now other → other ≡ image.sectors)
-    (λ image is other that. logical_once c.args.geom.now c.args.lun.now other image.sectors that is)
+returns-clause-only g c =
+    let sectors = g.S.Store.sectors c.args.store.now in
+    IfOk-weaker _
+    (λ (image : ImageValue). IsLogical c.args.geom.now sectors image.sectors)
+    (λ (image : ImageValue). (other : List Sector) → IsLogical c.args.geom.now sectors other → other ≡ image.sectors)
+    (λ image is other that. logical_once c.args.geom.now sectors other image.sectors that is)
     c.overlaid.ensures.logical

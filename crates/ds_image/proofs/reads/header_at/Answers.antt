@@ -6,6 +6,6 @@ use Rattle.ds_image.proofs.Decoded.{numbered_at}
 use Rattle.ds_image.proofs.reads.header_at.Goals as goal
 
 pub returns : goal.returns
-returns c =
-    numbered_at (slice_get c.args.lun.now) (header_sector c.args.geom.now c.args.object) c.sector_at-sector.result
+returns g c =
+    numbered_at (slice_get (g.S.Store.sectors c.args.store.now)) (header_sector c.args.geom.now c.args.object) c.sector_at-sector.result
     (λ h. h.object ≡ c.args.object) IsHeader header_bytes c.decode.result c.sector_at-sector.ensures c.decode.ensures

@@ -1,0 +1,126 @@
+//! Reports of a check.
+ghost use Rattle.std.specs.Prelude.{◌≡◌, ◌↔◌, [], ◌∷◌, ◌++◌, OnOk, IfOk, IsTrue, length};
+ghost use Rattle.std.specs.List.{flat_map};
+ghost use Rattle.ds_check.specs.Rows.{find_if};
+ghost use Rattle.ds_check.specs.Texts.{report_text, find_line};
+
+use crate::findings::Find;
+use crate::growing::Growing;
+use crate::texts::write_find;
+use ds_base::NoMemory;
+use std::alloc::Global;
+use std::marker::Model;
+
+/// What a check found, which contracts see as the list of findings.
+#[derive(Drop)]
+pub struct Report {
+    findings: Vec<Find>,
+}
+
+impl Model for Report {
+    ghost use Rattle.std.specs.Prelude.{List};
+    ghost use Rattle.ds_check.specs.declared.findings.Find.{Find};
+
+    ghost Value = { List Find };
+
+    ghost view = { λ report. report.findings.items };
+}
+
+impl Report {
+    /// A report without findings.
+    pub(crate) fn new(alloc: Global) -> Report
+        ensures { result ≡ [] }
+    {
+        Report {
+            findings: Vec::new(alloc),
+        }
+    }
+
+    pub(crate) fn note(&mut self, find: Find) -> Result<(), NoMemory>
+        ensures { OnOk result (self.new ≡ self.old ++ find ∷ []) }
+    {
+        self.findings.push(find).map_err(|_| NoMemory)
+    }
+
+    /// Notes a finding where there is one.
+    pub(crate) fn note_if(&mut self, found: bool, find: Find) -> Result<(), NoMemory>
+        ensures { OnOk result (self.new ≡ self.old ++ find_if found find) }
+    {
+        if found { self.note(find) } else { Ok(()) }
+    }
+
+    /// The findings in the order of the report.
+    pub fn findings(&self) -> &[Find]
+        ensures { result.now ≡ self.now }
+    {
+        &self.findings
+    }
+
+    pub(crate) fn is_empty(&self) -> bool
+        ensures { IsTrue result ↔ (length self.now ≡ 0) }
+    {
+        self.findings.is_empty()
+    }
+
+    /// The text of the report: a line for each finding, or the one line `clean`.
+    pub fn text(&self) -> Result<Vec<u8>, NoMemory>
+        ensures { IfOk result (λ text. text.items ≡ report_text self.now) }
+    {
+        let mut text = Growing::new(*self.findings.allocator());
+        if self.findings.is_empty() {
+            text.bytes(b"clean\n")?;
+        }
+        write_lines(&mut text, &self.findings)?;
+        Ok(text.into_bytes())
+    }
+}
+
+fn write_lines(text: &mut Growing, finds: &[Find]) -> Result<(), NoMemory>
+    ensures { OnOk result (text.new ≡ text.old ++ flat_map find_line finds.now) }
+{
+    for find in finds {
+        write_line(text, find)?;
+    }
+    Ok(())
+}
+
+fn write_line(text: &mut Growing, find: &Find) -> Result<(), NoMemory>
+    ensures { OnOk result (text.new ≡ text.old ++ find_line find.now) }
+{
+    write_find(text, find)?;
+    text.bytes(b"\n")
+}
+
+#[cfg(test)]
+mod tests {
+    use super::*;
+    use ds_base::Kind;
+    use std::test::Fail;
+
+    #[test]
+    fn each_finding_is_a_line(rt: HostRuntime) -> Result<(), Fail> {
+        let mut report = Report::new(rt.alloc());
+        assert_eq!(rt; report.text()?.as_slice(), b"clean\n".as_slice());
+
+        report.note(Find::SectorForm { sector: 1 })?;
+        report.note(Find::JournalsShare {
+            first: 0,
+            second: 3,
+            sector: 147,
+        })?;
+        report.note_if(false, Find::Root)?;
+        report.note_if(true, Find::Root)?;
+        report.note(Find::Twice {
+            kind: Kind::Fb,
+            item: 0,
+            first: 1,
+            second: 2,
+        })?;
+        report.note(Find::Dangling { object: 0, room: 5 })?;
+        let lines =
+            b"sector 1 form\njournals 0 3 share 147\nroot\nfb 0 twice 1 2\nobject 0 room 5 dangling\n";
+        assert_eq!(rt; report.text()?.as_slice(), lines.as_slice());
+        assert_eq!(rt; report.findings().len(), 5);
+        Ok(())
+    }
+}
