@@ -17,6 +17,7 @@ returns-clause-only c =
     (λ (found : Option TreeValue). MatchOption found (StandsForNone g sectors) (λ (it : TreeValue). StandsFor g sectors it.tree))
     Only
     (λ found is. (elim found as (λ (found : Option TreeValue). MatchOption found (StandsForNone g sectors) (λ (it : TreeValue). StandsFor g sectors it.tree) → Only found) [
-        None ↦ λ none. tt
-      | Some it ↦ λ stands t that. stands_once g sectors t it.tree that stands ]) is)
+      | None ↦ λ none. tt
+      | Some it ↦ λ stands t that. stands_once g sectors t it.tree that stands
+    ]) is)
     c.tree_in.ensures.tree
