@@ -2,3 +2,6 @@ mod Fronts
 mod Waits
 mod Advances
 mod Answering
+mod Digits
+mod Labels
+mod Ends

@@ -424,12 +424,16 @@ does_at names w ws =
     (host_named names w)
     (Err faults.Host)
 
+-- a host's line is bad where a directive or a `step` line has come before
+abbrev pub host_line_after : Bool → Words → Words → Reads Item
+host_line_after begun names ws = if begun then Err faults.Host else host_line_at names ws
+
 -- a later line, where the hosts so far have these names, and a directive or a `step` line has come before or not
 unfoldable pub item_at : Words → Bool → Words → Reads Item
 item_at names begun ws = do
   w ← word_at ws
   if bytes_eq w.0 (codes "volume") then Err faults.Volume
-      else if bytes_eq w.0 (codes "host") then (if begun then Err faults.Host else host_line_at names w.1)
+      else if bytes_eq w.0 (codes "host") then host_line_after begun names w.1
       else if bytes_eq w.0 (codes "step") then step_at names w.1
       else does_at names w.0 w.1
 

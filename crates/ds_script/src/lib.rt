@@ -1,8 +1,12 @@
 //! The language of scenarios: how their texts are read, and whether their directives can all pass.
 #![tactic(auto)]
 
+mod directives;
 mod faults;
+mod fields;
+mod items;
 mod lines;
+mod numbers;
 mod passing;
 #[cfg(test)]
 mod tests;
