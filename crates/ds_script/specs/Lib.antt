@@ -1,7 +1,9 @@
 pub mod Answers
+pub mod Drafts
 pub mod Entries
 pub mod Faults
 pub mod Fronts
 pub mod Passing
 pub mod Reading
 pub mod Results
+pub mod Runs

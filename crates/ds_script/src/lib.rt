@@ -1,6 +1,7 @@
 //! The language of scenarios: how their texts are read, and whether their directives can all pass.
 #![tactic(auto)]
 
+mod arming;
 mod directives;
 mod faults;
 mod fields;
