@@ -5,3 +5,4 @@ mod Answering
 mod Digits
 mod Labels
 mod Ends
+mod Edits

@@ -3,6 +3,7 @@
 
 mod arming;
 mod directives;
+mod drafts;
 mod faults;
 mod fields;
 mod items;
