@@ -1,6 +1,7 @@
 -- What ends a line, seen in another way.
-use Rattle.std.proofs.Common.{◌≡◌, Bool, true, false, [], ◌∷◌, Ok, Err, ap}
+use Rattle.std.proofs.Common.{◌≡◌, Result, Bool, true, false, [], ◌∷◌, Ok, Err, ap, sym, ◌∙◌}
 use Rattle.std.specs.Prelude.{if◌then◌else◌}
+use Rattle.std.specs.Result.{IsErrAnd}
 use Rattle.ds_tree.specs.Lines.{Words, is_word}
 use Rattle.ds_script.specs.declared.faults.LineFault.{LineFault}
 use Rattle.ds_script.specs.declared.faults.LineFault.TheVariants as faults
@@ -25,3 +26,9 @@ module _ {A B : Type 0} (f : A → B) where
   unfolding end_at
   end_seen x [] r e = read_seen x r e
   end_seen x (w ∷ ws) r e = end_fault (is_word w) r e
+
+-- a fault that is handed on
+pub gives_fault : {A B F : Type 0} (view : A → B) (r : Result A F) (read : Result B F) (fault : F)
+    → IsErrAnd r (λ e. e ≡ fault) → read ≡ Err fault → Gives view r read
+gives_fault view (Ok x) read fault err e = absurd err
+gives_fault view (Err other) read fault err e = e ∙ ap Err (sym err)

@@ -6,3 +6,4 @@ mod Digits
 mod Labels
 mod Ends
 mod Edits
+mod LineSteps

@@ -524,12 +524,15 @@ none_read number [] = Ok tt
 none_read number (line ∷ behind) =
     if is_comment (words_of line) then none_read (number + 1) behind else Err (BadLine number faults.Volume)
 
+-- a volume, where there is none of these lines
+abbrev pub only_volume_read : List ℕ × Geom → ℕ → List (List ℕ) → Result (List ℕ × Geom) ScriptFault
+only_volume_read volume number lines = none_read number lines >>= (λ none. Ok volume)
+
 -- a text as one volume line
 unfoldable pub volume_text_read : List ℕ → Result (List ℕ × Geom) ScriptFault
 volume_text_read bytes = do
   first ← first_read 1 (lines_of bytes)
-  _ ← none_read first.1 first.2
-  Ok first.0
+  only_volume_read first.0 first.1 first.2
 
 -- where there aren't too many bytes
 abbrev pub within_bytes : {A : Type 0} → List ℕ → Result A ScriptFault → Result A ScriptFault

@@ -19,7 +19,8 @@ pub fn is_unarmed(entry: &Entry, line: &[u8], behind: &[u8]) -> bool
     ensures { result ≡ is_unarmed (item_of entry.now) (words_of line.now) (lines_of behind.now) }
 {
     match (entry, next_word(line)) {
-        (Entry::Does { directive, .. }, Some((host, _))) => is_arming(directive) && !finds_call(host, behind),
+        (Entry::Does { directive, .. }, Some((host, _))) => is_arming(directive)
+            && !finds_call(host, behind),
         _ => false,
     }
 }
@@ -28,7 +29,10 @@ pub fn is_unarmed(entry: &Entry, line: &[u8], behind: &[u8]) -> bool
 fn is_arming(directive: &Directive) -> bool
     ensures { result ≡ is_arming directive.now }
 {
-    matches!(directive, Directive::Hold { .. } | Directive::Crash { .. } | Directive::Fail { .. })
+    matches!(
+        directive,
+        Directive::Hold { .. } | Directive::Crash { .. } | Directive::Fail { .. }
+    )
 }
 
 /// Whether the next line that begins with a host's name has the word of a call as its second, whatever else stands in it.

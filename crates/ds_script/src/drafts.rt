@@ -74,7 +74,8 @@ impl Draft {
         match entry {
             Entry::Host { .. } => (self.hosts.len() >= 16).then_some(What::Hosts),
             Entry::Does { .. } => (self.directives >= 4096).then_some(What::Directives),
-            Entry::Step { turns, .. } => (u64::from(self.turns) + u64::from(*turns) > 1_000_000).then_some(What::Steps),
+            Entry::Step { turns, .. } => (u64::from(self.turns) + u64::from(*turns)
+                > 1_000_000).then_some(What::Steps),
         }
     }
 
@@ -96,7 +97,9 @@ impl Draft {
         ensures { OnOk result (self.new ≡ with_item self.old (Host name)) }
     {
         let list = Items::new(alloc);
-        self.hosts.push(HostPlan { name, list }).map_err(|_| NoMemory)
+        self.hosts
+            .push(HostPlan { name, list })
+            .map_err(|_| NoMemory)
     }
 
     fn add_directive(&mut self, host: HostNo, directive: Directive) -> Result<(), NoMemory>

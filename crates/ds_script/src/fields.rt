@@ -303,6 +303,7 @@ pub fn take_after(line: &[u8]) -> Result<(Option<Word>, &[u8]), LineFault>
 #[tactic(auto, unfolding(crate::specs::Reading::size_at))]
 pub fn take_size(field: GeomField, line: &[u8]) -> Result<(u16, &[u8]), LineFault>
     ensures read { Gives (λ x. (x.0, words_of x.1.now)) result (size_at field (words_of line.now)) }
+    ensures least { IfOk result (λ x. 1 ≤ x.0) }
     ensures most { IfOk result (λ x. x.0 ≤ most_of field) }
 {
     let (word, rest) = take_bytes(line)?;

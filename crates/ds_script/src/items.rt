@@ -2,7 +2,7 @@
 #![tactic(auto)]
 
 ghost use Rattle.std.specs.Prelude.{◌≡◌, ◌≤◌, IfOk, length};
-ghost use Rattle.ds_base.specs.Geometry.{most_of, most_items};
+ghost use Rattle.ds_base.specs.Geometry.{IsGeom, most_of, most_items};
 ghost use Rattle.ds_tree.specs.Grammar.{most_hosts, names_of};
 ghost use Rattle.ds_tree.specs.Lines.{is_comment, words_of};
 ghost use Rattle.ds_script.specs.Entries.{IsOfHosts, item_of};
@@ -41,7 +41,8 @@ pub fn is_comment(line: &[u8]) -> bool
 /// The line of a volume: its id and its geometry.
 #[tactic(auto, unfolding(crate::specs::Reading::volume_line_at))]
 pub fn take_volume_line(line: &[u8]) -> Result<(Uuid, Geom), LineFault>
-    ensures { Gives (λ x. x) result (volume_line_at (words_of line.now)) }
+    ensures read { Gives (λ x. x) result (volume_line_at (words_of line.now)) }
+    ensures in_range { IfOk result (λ volume. IsGeom volume.1) }
 {
     let (word, rest) = take_bytes(line)?;
     if word != b"volume".as_slice() {
@@ -52,7 +53,8 @@ pub fn take_volume_line(line: &[u8]) -> Result<(Uuid, Geom), LineFault>
 
 #[tactic(auto, unfolding(crate::specs::Reading::volume_at, crate::specs::Reading::id_at))]
 fn take_volume(line: &[u8]) -> Result<(Uuid, Geom), LineFault>
-    ensures { Gives (λ x. x) result (volume_at (words_of line.now)) }
+    ensures read { Gives (λ x. x) result (volume_at (words_of line.now)) }
+    ensures in_range { IfOk result (λ volume. IsGeom volume.1) }
 {
     let (word, rest) = take_bytes(line)?;
     let id = id_of(word)?;
@@ -62,7 +64,8 @@ fn take_volume(line: &[u8]) -> Result<(Uuid, Geom), LineFault>
 
 #[tactic(auto, unfolding(crate::specs::Reading::geometry_at))]
 fn take_geometry(line: &[u8]) -> Result<Geom, LineFault>
-    ensures { Gives (λ x. x) result (geometry_at (words_of line.now)) }
+    ensures read { Gives (λ x. x) result (geometry_at (words_of line.now)) }
+    ensures in_range { IfOk result (λ geom. IsGeom geom) }
 {
     let (slots, rest) = take_named_size(b"slots", GeomField::Slots, line)?;
     let (block, rest) = take_named_size(b"block", GeomField::Block, rest)?;
@@ -87,6 +90,7 @@ fn take_named_size<'a>(
     line: &'a [u8],
 ) -> Result<(u16, &'a [u8]), LineFault>
     ensures read { Gives (λ x. (x.0, words_of x.1.now)) result (named_size_at keyword.now field (words_of line.now)) }
+    ensures least { IfOk result (λ x. 1 ≤ x.0) }
     ensures most { IfOk result (λ x. x.0 ≤ most_of field) }
 {
     let rest = expect_keyword(keyword, line)?;
@@ -100,7 +104,9 @@ fn take_kind<'a>(
     kind: Kind,
     line: &'a [u8],
 ) -> Result<((u8, u16), &'a [u8]), LineFault>
-    ensures { Gives (λ x. (x.0, words_of x.1.now)) result (kind_at keyword.now kind (words_of line.now)) }
+    ensures read { Gives (λ x. (x.0, words_of x.1.now)) result (kind_at keyword.now kind (words_of line.now)) }
+    ensures clusters { IfOk result (λ x. (1 ≤ x.0.0) × (x.0.0 ≤ 8)) }
+    ensures items { IfOk result (λ x. (1 ≤ x.0.1) × (x.0.1 ≤ most_items kind)) }
 {
     let (clusters, rest) = take_named_size(keyword, GeomField::Clusters(kind), line)?;
     let (items, rest) = take_size(GeomField::Items(kind), rest)?;

@@ -10,6 +10,7 @@ mod items;
 mod lines;
 mod numbers;
 mod passing;
+mod reading;
 #[cfg(test)]
 mod tests;
 

@@ -1,4 +1,4 @@
-use Rattle.std.proofs.Common.{◌≡◌, ◌<◌, ◌++◌, ◌∷◌, [], List, length, get_or, arith, ap, refl, sym}
+use Rattle.std.proofs.Common.{◌≡◌, ◌<◌, List, length, get_or, ap}
 use Rattle.ds_tree.specs.declared.scenarios.HostPlan.{HostPlan}
 use Rattle.ds_tree.specs.declared.scenarios.Scenario.{Scenario}
 use Rattle.ds_script.proofs.Edits.{with_directive_set}
