@@ -2,6 +2,7 @@ pub mod Answers
 pub mod Drafts
 pub mod Entries
 pub mod Faults
+pub mod FaultTexts
 pub mod Fronts
 pub mod Passing
 pub mod Reading
