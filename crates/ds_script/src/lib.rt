@@ -12,6 +12,8 @@ mod numbers;
 mod passing;
 mod reading;
 #[cfg(test)]
+mod reading_tests;
+#[cfg(test)]
 mod tests;
 
 pub use faults::{LineFault, ScriptFault, What};

@@ -22,7 +22,7 @@ use std::alloc::Global;
 use uuid::Uuid;
 
 /// The scenario that a text is.
-fn read(alloc: Global, bytes: &[u8]) -> Result<Scenario, ScriptFault>
+pub fn read(alloc: Global, bytes: &[u8]) -> Result<Scenario, ScriptFault>
     ensures { TellsPassing result (within_bytes bytes.now (text_read bytes.now)) }
 {
     if bytes.len() > 1_048_576 {
@@ -37,7 +37,7 @@ fn read(alloc: Global, bytes: &[u8]) -> Result<Scenario, ScriptFault>
 
 /// The volume that a text of one volume line is: its id and its geometry.
 #[tactic(auto, unfolding(crate::specs::Reading::volume_text_read))]
-fn read_volume(bytes: &[u8]) -> Result<(Uuid, Geom), ScriptFault>
+pub fn read_volume(bytes: &[u8]) -> Result<(Uuid, Geom), ScriptFault>
     ensures { result ≡ within_bytes bytes.now (volume_text_read bytes.now) }
 {
     if bytes.len() > 1_048_576 {
