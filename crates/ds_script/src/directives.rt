@@ -13,6 +13,7 @@ use crate::fields::{
     ended, take_after, take_bind, take_bytes, take_host, take_key, take_landing, take_number,
     take_point, take_word,
 };
+use crate::limits::{MOST_DIRECTIVES, MOST_TICKS};
 use ds_base::HostNo;
 use ds_tree::{CallOf, Directive, HostCallOf, HostPlan, Spoken, Var};
 
@@ -349,7 +350,7 @@ fn take_fail(line: &[u8]) -> Result<Directive, LineFault>
 fn take_tick(line: &[u8]) -> Result<Directive, LineFault>
     ensures { Gives (λ x. x) result (tick_at (words_of line.now)) }
 {
-    let (ticks, rest) = take_number(1, 1_000_000, line)?;
+    let (ticks, rest) = take_number(1, MOST_TICKS, line)?;
     ended(Directive::Tick { ticks }, rest)
 }
 
@@ -372,6 +373,6 @@ fn take_awaited<'a>(
     ensures { Gives (λ x. (x.0, words_of x.1.now)) result (awaited_at (names_of hosts.now) (words_of line.now)) }
 {
     let (host, rest) = take_host(hosts, line)?;
-    let (directive, rest) = take_number(1, 4096, rest)?;
+    let (directive, rest) = take_number(1, MOST_DIRECTIVES, rest)?;
     Ok(((host, directive), rest))
 }

@@ -9,6 +9,7 @@ ghost use Rattle.ds_script.specs.Reading.{count_of_directives, count_of_turns, i
 
 use crate::faults::What;
 use crate::items::Entry;
+use crate::limits::{MOST_DIRECTIVES, MOST_HOSTS, MOST_STEPS};
 use ds_base::{Geom, HostNo, NoMemory, Word};
 use ds_tree::{Directive, HostPlan, Items, Scenario};
 use std::alloc::Global;
@@ -23,7 +24,7 @@ pub struct Draft {
     geom: Geom,
     hosts: Vec<HostPlan>,
     steps: Items<(HostNo, u32)>,
-    directives: usize,
+    directives: u32,
     turns: u32,
 }
 
@@ -72,10 +73,9 @@ impl Draft {
         ensures { result ≡ limit_at self.now (item_of entry.now) }
     {
         match entry {
-            Entry::Host { .. } => (self.hosts.len() >= 16).then_some(What::Hosts),
-            Entry::Does { .. } => (self.directives >= 4096).then_some(What::Directives),
-            Entry::Step { turns, .. } => (u64::from(self.turns) + u64::from(*turns)
-                > 1_000_000).then_some(What::Steps),
+            Entry::Host { .. } => (self.hosts.len() >= MOST_HOSTS).then_some(What::Hosts),
+            Entry::Does { .. } => (self.directives >= MOST_DIRECTIVES).then_some(What::Directives),
+            Entry::Step { turns, .. } => (*turns > MOST_STEPS - self.turns).then_some(What::Steps),
         }
     }
 

@@ -15,6 +15,7 @@ use crate::fields::{
     ended, expect_keyword, host_named, id_of, take_bytes, take_fresh_host, take_host, take_number,
     take_size,
 };
+use crate::limits::MOST_TURNS;
 use crate::lines::next_word;
 use ds_base::{Geom, GeomField, HostNo, Kind, Word};
 use ds_tree::{Directive, HostPlan};
@@ -152,7 +153,7 @@ fn take_step(hosts: &[HostPlan], line: &[u8]) -> Result<Entry, LineFault>
     ensures known { IfOk result (λ entry. IsOfHosts (length hosts.now) (item_of entry)) }
 {
     let (host, rest) = take_host(hosts, line)?;
-    let (turns, rest) = take_number(1, 65536, rest)?;
+    let (turns, rest) = take_number(1, MOST_TURNS, rest)?;
     ended(Entry::Step { host, turns }, rest)
 }
 

@@ -7,6 +7,7 @@ mod drafts;
 mod faults;
 mod fields;
 mod items;
+mod limits;
 mod lines;
 mod numbers;
 mod passing;

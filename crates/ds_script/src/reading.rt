@@ -13,6 +13,7 @@ use crate::arming::is_unarmed;
 use crate::drafts::Draft;
 use crate::faults::{LineFault, ScriptFault, What};
 use crate::items::{is_comment, take_item, take_volume_line};
+use crate::limits::{MOST_BYTES, MOST_SECTORS};
 use crate::lines::next_line;
 use crate::passing::{Pass, plain_pass};
 use ds_base::Geom;
@@ -25,7 +26,7 @@ use uuid::Uuid;
 pub fn read(alloc: Global, bytes: &[u8]) -> Result<Scenario, ScriptFault>
     ensures { TellsPassing result (within_bytes bytes.now (text_read bytes.now)) }
 {
-    if bytes.len() > 1_048_576 {
+    if bytes.len() > MOST_BYTES {
         return Err(ScriptFault::TooLarge { what: What::Bytes });
     }
     let scenario = read_text(alloc, bytes)?;
@@ -40,7 +41,7 @@ pub fn read(alloc: Global, bytes: &[u8]) -> Result<Scenario, ScriptFault>
 pub fn read_volume(bytes: &[u8]) -> Result<(Uuid, Geom), ScriptFault>
     ensures { result ≡ within_bytes bytes.now (volume_text_read bytes.now) }
 {
-    if bytes.len() > 1_048_576 {
+    if bytes.len() > MOST_BYTES {
         return Err(ScriptFault::TooLarge { what: What::Bytes });
     }
     match read_first(bytes) {
@@ -136,7 +137,7 @@ fn read_volume_line(number: u32, line: &[u8]) -> Result<(Uuid, Geom), ScriptFaul
     ensures { Gives (λ x. x) result (volume_read number (words_of line.now)) }
 {
     match take_volume_line(line) {
-        Ok((_, geom)) if total(&geom) > 131_072 => Err(ScriptFault::TooLarge {
+        Ok((_, geom)) if total(&geom) > MOST_SECTORS => Err(ScriptFault::TooLarge {
             what: What::Volume,
         }),
         Ok(volume) => Ok(volume),

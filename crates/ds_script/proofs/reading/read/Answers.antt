@@ -6,7 +6,7 @@ use Rattle.ds_script.proofs.reading.read.Goals as goal
 
 pub returns-in-Stuck : goal.returns-in-Stuck
 returns-in-Stuck c =
-    let few : nat_lt most_bytes (length c.args.bytes.now) ≡ false = le-ltb _ _ c.if-bytes-gt1048576.false in
+    let few : nat_lt most_bytes (length c.args.bytes.now) ≡ false = le-ltb _ _ c.if-bytes-gt-MOST_BYTES.false in
     inr (inr (record {
       scenario = c.in_ok-scenario.scenario;
       host = c.in-Stuck.host;
