@@ -7,3 +7,6 @@ mod Labels
 mod Ends
 mod Edits
 mod LineSteps
+mod FirstTroubles
+mod Rightly
+mod TextAnswers
