@@ -10,3 +10,4 @@ mod LineSteps
 mod FirstTroubles
 mod Rightly
 mod TextAnswers
+mod Armed
