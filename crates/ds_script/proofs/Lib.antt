@@ -11,3 +11,4 @@ mod FirstTroubles
 mod Rightly
 mod TextAnswers
 mod Armed
+mod Grown
