@@ -2,3 +2,4 @@ mod Fronts
 mod Waits
 mod Advances
 mod Answering
+mod Readers
