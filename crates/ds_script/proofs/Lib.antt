@@ -3,3 +3,5 @@ mod Waits
 mod Advances
 mod Answering
 mod Readers
+mod WordLaws
+mod FieldLaws
