@@ -5,3 +5,4 @@ mod Answering
 mod Readers
 mod WordLaws
 mod FieldLaws
+mod LookupLaws
