@@ -6,3 +6,6 @@ mod Readers
 mod WordLaws
 mod FieldLaws
 mod LookupLaws
+mod Written
+mod DirectiveLines
+mod DirectiveLaws

@@ -52,7 +52,7 @@ pub record Behind (A B : Type 0) (First : List ℕ → A → Type 0) (Next : A �
   pub first : First word value
   pub next : Next value rest y
 
-IfOk-like : {A : Type 0} (P Q : A → Type 0) (r : Reads A) → ((x : A) → P x → Q x) → IfOk r P → IfOk r Q
+pub IfOk-like : {A : Type 0} (P Q : A → Type 0) (r : Reads A) → ((x : A) → P x → Q x) → IfOk r P → IfOk r Q
 IfOk-like P Q (Ok x) like h = like x h
 IfOk-like P Q (Err f) like h = tt
 
