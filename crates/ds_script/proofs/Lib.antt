@@ -9,3 +9,4 @@ mod LookupLaws
 mod Written
 mod DirectiveLines
 mod DirectiveLaws
+mod DirectiveReading

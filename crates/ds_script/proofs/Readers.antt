@@ -22,6 +22,10 @@ abbrev pub by_word : {A : Type 0} → (List ℕ → Reads A) → Reader A
 by_word pick [] = Err faults.Count
 by_word pick (w ∷ ws) = if is_word w then pick w >>= before ws else Err faults.Word
 
+-- a word that may stand in a line, and the words behind it
+abbrev pub taken : List ℕ → Words → Bool → Reads (List ℕ × Words)
+taken w ws b = if b then Ok (w, ws) else Err faults.Word
+
 -- what one word is, at the place of a class
 pub record IsPick (A : Type 0) (names : Words) (class : Class) (pick : List ℕ → Reads A) (Means : List ℕ → A → Type 0) : Type 0 where
   pub means : (w : List ℕ) → is_word w ≡ true → IfOk (pick w) (Means w)
