@@ -10,3 +10,4 @@ mod Written
 mod DirectiveLines
 mod DirectiveLaws
 mod DirectiveReading
+mod VolumeLaws
