@@ -11,3 +11,4 @@ mod DirectiveLines
 mod DirectiveLaws
 mod DirectiveReading
 mod VolumeLaws
+mod ItemLaws

@@ -171,3 +171,28 @@ line_same A names shape read same Means line equal = record {
   again = λ ws x h. equal ws ∙ line.again ws x h;
   tells = λ ws. line.tells ws ∙ ap fault_in (sym (equal ws));
 }
+
+-- A line by its first word.
+
+module _ (A : Type 0) (body : List ℕ × Words → Reads A) (w : List ℕ) (ws : Words) where
+  taken_means : (P : A → Type 0) → IfOk (body (w, ws)) P → (b : Bool) → IfOk (taken w ws b >>= body) P
+  taken_means P h true = h
+  taken_means P h false = tt
+
+  taken_tells : (more : Option LineFault) → more ≡ fault_in (body (w, ws)) → (b : Bool)
+      → (if not b then Some faults.Word else more) ≡ fault_in (taken w ws b >>= body)
+  taken_tells more told true = told
+  taken_tells more told false = refl
+
+  pub first_word_means : (P : A → Type 0) → IfOk (body (w, ws)) P → IfOk (word_at (w ∷ ws) >>= body) P
+  unfolding word_at
+  first_word_means P h = taken_means P h (is_word w)
+
+  pub first_word_tells : (more : Option LineFault) → more ≡ fault_in (body (w, ws))
+      → (if not (is_word w) then Some faults.Word else more) ≡ fault_in (word_at (w ∷ ws) >>= body)
+  unfolding word_at
+  first_word_tells more told = taken_tells more told (is_word w)
+
+  pub first_word_again : is_word w ≡ true → (word_at (w ∷ ws) >>= body) ≡ body (w, ws)
+  unfolding word_at
+  first_word_again is = rw is refl
