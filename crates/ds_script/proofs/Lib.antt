@@ -12,3 +12,8 @@ mod DirectiveLaws
 mod DirectiveReading
 mod VolumeLaws
 mod ItemLaws
+mod Digits
+mod Labels
+mod Ends
+mod Edits
+mod LineSteps

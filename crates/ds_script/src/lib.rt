@@ -1,9 +1,16 @@
 //! The language of scenarios: how their texts are read, and whether their directives can all pass.
 #![tactic(auto)]
 
+mod arming;
+mod directives;
+mod drafts;
 mod faults;
+mod fields;
+mod items;
 mod lines;
+mod numbers;
 mod passing;
+mod reading;
 #[cfg(test)]
 mod tests;
 
