@@ -17,3 +17,4 @@ mod Labels
 mod Ends
 mod Edits
 mod LineSteps
+mod ItemEffects
