@@ -18,3 +18,5 @@ mod Ends
 mod Edits
 mod LineSteps
 mod ItemEffects
+mod StateLaws
+mod LineOrder
