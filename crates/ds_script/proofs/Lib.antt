@@ -20,3 +20,4 @@ mod LineSteps
 mod ItemEffects
 mod StateLaws
 mod LineOrder
+mod TextLaws

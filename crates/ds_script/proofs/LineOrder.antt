@@ -31,7 +31,7 @@ abbrev pub refusal : ℕ → Trouble → ScriptFault
 refusal number (Bad why) = BadLine number why
 refusal number (Large what) = TooLarge what
 
-abbrev judged : Option LineFault → Bool → Option What → Option Trouble
+abbrev pub judged : Option LineFault → Bool → Option What → Option Trouble
 judged fault wants limit =
     option_map_or (λ why. Some (Bad why)) (option_map_or (λ why. Some why) fault (if wants then Some faults.Arm else None))
     (option_map Large limit)
@@ -139,7 +139,7 @@ ReadGives lines n s suffix (Err f) = IsFirstFrom lines n f
 pub passed_stands : (judge : Judge) (lines : List (List ℕ)) (k : ℕ) → is_comment (words_of (get_or lines k [])) ≡ true → trouble_at judge lines k ≡ None
 passed_stands judge lines k is = rw is refl
 
-past_stands : (lines : List (List ℕ)) (k : ℕ) → length lines ≤ k → trouble_at in_scenario lines k ≡ None
+pub past_stands : (lines : List (List ℕ)) (k : ℕ) → length lines ≤ k → trouble_at in_scenario lines k ≡ None
 past_stands lines k past =
     let none : get_or lines k [] ≡ [] = get_or_past lines k [] past in
     passed_stands in_scenario lines k (ap (λ (line : List ℕ). is_comment (words_of line)) none ∙ ap is_comment (words_of-none [] refl))
@@ -198,7 +198,7 @@ pub trouble_here : (judge : Judge) (lines : List (List ℕ)) (n : ℕ) (line : L
     → trouble_at judge lines n ≡ judge before (words_of line) behind
 trouble_here judge lines n line behind before at kept_so is = rw (at.here, is, kept_so, at.later) refl
 
-append_none : (xs : List Words) → xs ++ [] ≡ xs
+pub append_none : (xs : List Words) → xs ++ [] ≡ xs
 append_none [] = refl
 append_none (x ∷ xs) = ap (λ (ys : List Words). x ∷ ys) (append_none xs)
 

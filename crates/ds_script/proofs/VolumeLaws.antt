@@ -71,18 +71,18 @@ module _ (V B : Type 0) (shape : Shape) (words : V → Words) (Fit : V → Type 
 
 -- The geometry.
 
-abbrev Sizes : Type 0
+abbrev pub Sizes : Type 0
 Sizes = ℕ × (ℕ × (ℕ × (ℕ × (ℕ × (ℕ × (ℕ × (ℕ × (ℕ × (ℕ × Unit {0})))))))))
 
-abbrev geom_from : (slots block a b c d e f g h : ℕ) → Geom
+abbrev pub geom_from : (slots block a b c d e f g h : ℕ) → Geom
 geom_from slots block a b c d e f g h = record { slots = slots; block = block; clusters = a ∷ c ∷ e ∷ g ∷ []; items = b ∷ d ∷ f ∷ h ∷ [] }
 
-abbrev sizes_of : Geom → Sizes
+abbrev pub sizes_of : Geom → Sizes
 sizes_of g =
     (g.slots, (g.block, (clusters_of g Fd, (per_cluster g Fd, (clusters_of g Sb, (per_cluster g Sb, (clusters_of g Pb, (per_cluster g Pb,
     (clusters_of g Fb, (per_cluster g Fb, tt))))))))))
 
-abbrev geom_of : Sizes → Geom
+abbrev pub geom_of : Sizes → Geom
 geom_of v =
     geom_from v.0 v.1.0 v.1.1.0 v.1.1.1.0 v.1.1.1.1.0 v.1.1.1.1.1.0 v.1.1.1.1.1.1.0 v.1.1.1.1.1.1.1.0 v.1.1.1.1.1.1.1.1.0
     v.1.1.1.1.1.1.1.1.1.0
@@ -120,7 +120,7 @@ four_in (a ∷ b ∷ c ∷ []) e = absurd (omega (arith, e))
 four_in (a ∷ b ∷ c ∷ d ∷ []) e = refl
 four_in (a ∷ b ∷ c ∷ d ∷ x ∷ xs) e = absurd (omega (arith, e))
 
-geom_again : (g : Geom) → HasFourKinds g → g ≡ geom_of (sizes_of g)
+pub geom_again : (g : Geom) → HasFourKinds g → g ≡ geom_of (sizes_of g)
 geom_again g four =
     let of_clusters : List ℕ → Geom = λ xs. record g { clusters = xs } in
     let clusters = slice_index g.clusters 0 ∷ slice_index g.clusters 1 ∷ slice_index g.clusters 2 ∷ slice_index g.clusters 3 ∷ [] in
