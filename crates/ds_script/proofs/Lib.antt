@@ -2,6 +2,16 @@ mod Fronts
 mod Waits
 mod Advances
 mod Answering
+mod Readers
+mod WordLaws
+mod FieldLaws
+mod LookupLaws
+mod Written
+mod DirectiveLines
+mod DirectiveLaws
+mod DirectiveReading
+mod VolumeLaws
+mod ItemLaws
 mod Digits
 mod Labels
 mod Ends
@@ -12,3 +22,7 @@ mod Rightly
 mod TextAnswers
 mod Armed
 mod Grown
+mod ItemEffects
+mod StateLaws
+mod LineOrder
+mod TextLaws
