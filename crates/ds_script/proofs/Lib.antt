@@ -26,3 +26,4 @@ mod ItemEffects
 mod StateLaws
 mod LineOrder
 mod TextLaws
+mod ReadAgain

@@ -1,30 +1,27 @@
 -- A whole text: where it is refused, the first line that can't stand is told; where it is read, all of them stand.
-use Rattle.std.proofs.Common.{◌≡◌, ℕ, suc, ◌+◌, ◌^◌, ◌≤◌, ◌<◌, ◌⊎◌, inl, inr, Bool, true, false, not, List, [], ◌∷◌, ◌++◌, length, get_or, take, drop, Result, Ok, Err, Option, Some, None, refl, ap, sym, ◌∙◌, subst, arith, length-drop}
+use Rattle.std.proofs.Common.{◌≡◌, ℕ, ◌+◌, ◌^◌, ◌≤◌, ◌<◌, ◌⊎◌, inl, inr, Bool, true, false, List, [], ◌∷◌, ◌++◌, length, take, drop, Result, Ok, Err, Option, Some, None, refl, ap, sym, ◌∙◌, subst, arith}
 use Rattle.std.specs.Prelude.{IfOk, codes, decimal, nat_lt, if◌then◌else◌}
-use Rattle.std.proofs.lemmas.Bool.{ltb-true, ltb-false, cases_eq}
-use Rattle.std.proofs.lemmas.List.{take_all}
+use Rattle.std.proofs.lemmas.Bool.{ltb-false, cases_eq}
 use Rattle.ds_base.specs.declared.geometry.Geom.{Geom}
 use Rattle.ds_base.specs.declared.geometry.GeomField.TheVariants as fields
 use Rattle.ds_base.specs.declared.geometry.Kind.TheVariants.{Fd, Sb, Pb, Fb}
 use Rattle.ds_base.specs.Geometry.{IsGeom, clusters_of, per_cluster}
 use Rattle.ds_layout.specs.Places.{total_of}
-use Rattle.ds_tree.specs.declared.scenarios.Scenario.{Scenario}
-use Rattle.ds_tree.specs.Lines.{Words, lines_of, words_of, is_comment, kept, number_of}
+use Rattle.ds_tree.specs.Lines.{Words, words_of, is_comment, kept, number_of}
 use Rattle.ds_tree.specs.Grammar.{geometry_part}
 use Rattle.ds_script.specs.declared.faults.LineFault.{LineFault}
 use Rattle.ds_script.specs.declared.faults.LineFault.TheVariants as faults
 use Rattle.ds_script.specs.declared.faults.ScriptFault.{ScriptFault}
-use Rattle.ds_script.specs.declared.faults.ScriptFault.TheVariants.{BadLine, TooLarge, Stuck, NoMemory}
+use Rattle.ds_script.specs.declared.faults.ScriptFault.TheVariants.{BadLine, TooLarge}
 use Rattle.ds_script.specs.declared.faults.What.{What}
 use Rattle.ds_script.specs.declared.faults.What.TheVariants as whats
-use Rattle.ds_script.specs.Faults.{most_sectors, line_fault, limit_passed, geometry_of, Trouble, Bad, Large, in_scenario, trouble_at, IsFirst, LacksVolume, IsFirstBad, PassesLimit}
-use Rattle.ds_script.specs.Reading.{◌>>=◌, Reads, on_line, volume_line_at, volume_read, first_read, scenario_of, read_from, text_read}
+use Rattle.ds_script.specs.Faults.{most_sectors, line_fault, limit_passed, geometry_of, Bad, Large, in_scenario, trouble_at}
+use Rattle.ds_script.specs.Reading.{◌>>=◌, Reads, on_line, volume_line_at, volume_read, first_read}
 use Rattle.ds_script.proofs.Readers.{fault_in}
 use Rattle.ds_script.proofs.WordLaws.{number_of-decimal}
 use Rattle.ds_script.proofs.VolumeLaws.{SaysVolume, volume_line_means, volume_line_tells, geom_again, geom_of, sizes_of}
 use Rattle.ds_script.proofs.ItemEffects.{wants_call}
-use Rattle.ds_script.proofs.StateLaws.{IsState, state_first}
-use Rattle.ds_script.proofs.LineOrder.{refusal, judged, IsRefused, Continues, IsFirstFrom, AllStand, ReadGives, read_from_gives, passed_stands, past_stands, IsAt, line_at, trouble_here, append_none, kept_passed, kept_line}
+use Rattle.ds_script.proofs.LineOrder.{judged, IsRefused, IsFirstFrom, passed_stands, IsAt, trouble_here, kept_passed, kept_line}
 
 -- The volume line.
 
@@ -76,7 +73,7 @@ module _ (number : ℕ) (ws : Words) (behind : List (List ℕ)) where
 
   by_volume : (r : Reads (List ℕ × Geom)) → IfOk r (SaysVolume ws) → line_fault [] ws ≡ fault_in r
       → VolumeGives number ws behind
-          (on_line number r >>= (λ volume. if nat_lt most_sectors (total_of volume.1) then Err (TooLarge whats.Volume) else Ok volume))
+      (on_line number r >>= (λ volume. if nat_lt most_sectors (total_of volume.1) then Err (TooLarge whats.Volume) else Ok volume))
   by_volume (Err why) says e = record {
     why = Bad why;
     is = ap (λ (f : Option LineFault). judged f (wants_call ws behind) (limit_passed [] ws)) e;
@@ -160,13 +157,13 @@ module _ (lines : List (List ℕ)) (n : ℕ) where
       kept_so = at.kept_more ∙ (ap (λ (ks : List Words). ks ++ kept (line ∷ [])) so ∙ kept_line line is);
       volume = h;
       stand = λ j from less.
-        subst (λ i. trouble_at in_scenario lines i ≡ None) (omega (arith, from, less))
-        (trouble_here in_scenario lines n line behind [] at so is ∙ h.none);
+          subst (λ i. trouble_at in_scenario lines i ≡ None) (omega (arith, from, less))
+          (trouble_here in_scenario lines n line behind [] at so is ∙ h.none);
     }
 
     first_line : FirstGives lines (n + 1) (first_read (n + 1 + 1) behind) → (b : Bool) → is_comment (words_of line) ≡ b
         → FirstGives lines n (if b then first_read (n + 1 + 1) behind
-              else volume_read (n + 1) (words_of line) >>= (λ volume. Ok (volume, n + 1 + 1, behind)))
+        else volume_read (n + 1) (words_of line) >>= (λ volume. Ok (volume, n + 1 + 1, behind)))
     first_line rest true is =
         first_later (passed_stands in_scenario lines n (ap (λ (l : List ℕ). is_comment (words_of l)) at.here ∙ is))
         (first_read (n + 1 + 1) behind) rest
