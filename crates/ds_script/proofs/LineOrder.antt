@@ -173,7 +173,7 @@ pub record IsAt (lines : List (List ℕ)) (n : ℕ) (line : List ℕ) (behind : 
   pub later : drop (n + 1) lines ≡ behind
   pub kept_more : kept (take (n + 1) lines) ≡ kept (take n lines) ++ kept (line ∷ [])
 
-kept-append : (xs ys : List (List ℕ)) → kept (xs ++ ys) ≡ kept xs ++ kept ys
+pub kept-append : (xs ys : List (List ℕ)) → kept (xs ++ ys) ≡ kept xs ++ kept ys
 kept-append xs ys =
     ap (filter (λ (ws : Words). not (is_comment ws))) (map-append words_of xs ys)
     ∙ filter-append (λ (ws : Words). not (is_comment ws)) (map words_of xs) (map words_of ys)
