@@ -21,3 +21,5 @@ mod ItemEffects
 mod StateLaws
 mod LineOrder
 mod TextLaws
+mod Growth
+mod Within

@@ -102,7 +102,7 @@ names_push names name are host fresh = record {
 abbrev bit : Bool → ℕ
 bit b = cond b 1 0
 
-names_more : (s : Scenario) (item : Item) → names_of (with_item s item).hosts ≡ names_of s.hosts ++ names_added item
+pub names_more : (s : Scenario) (item : Item) → names_of (with_item s item).hosts ≡ names_of s.hosts ++ names_added item
 names_more s (Volume id g) = none (names_of s.hosts)
   where
     none : (ws : Words) → ws ≡ ws ++ []
@@ -124,7 +124,7 @@ plans_push : (plans : List HostPlan) (plan : HostPlan) → length (plans ++ plan
 plans_push [] plan = omega arith
 plans_push (x ∷ plans) plan = omega (arith, plans_push plans plan)
 
-hosts_more : (s : Scenario) (item : Item) → length (with_item s item).hosts ≡ length s.hosts + bit (is_host item)
+pub hosts_more : (s : Scenario) (item : Item) → length (with_item s item).hosts ≡ length s.hosts + bit (is_host item)
 hosts_more s (Volume id g) = omega arith
 hosts_more s (Host name) = plans_push s.hosts (record { name = name; list = [] })
 hosts_more s (Does host d) = omega (arith, length-with_directive s.hosts host d)
@@ -135,7 +135,7 @@ abbrev pub HasHost : Scenario → Item → Type 0
 HasHost s (Does host d) = host < length s.hosts
 HasHost s _ = Unit {0}
 
-directives_more : (s : Scenario) (item : Item) → HasHost s item
+pub directives_more : (s : Scenario) (item : Item) → HasHost s item
     → count_of_directives (with_item s item) ≡ count_of_directives s + bit (is_does item)
 directives_more s (Volume id g) there = omega arith
 directives_more s (Host name) there =
@@ -144,7 +144,7 @@ directives_more s (Host name) there =
 directives_more s (Does host d) there = count-with_directive s.hosts host d there
 directives_more s (Step host count) there = omega arith
 
-turns_more : (s : Scenario) (item : Item) → count_of_turns (with_item s item) ≡ count_of_turns s + turns_added item
+pub turns_more : (s : Scenario) (item : Item) → count_of_turns (with_item s item) ≡ count_of_turns s + turns_added item
 turns_more s (Volume id g) = omega arith
 turns_more s (Host name) = omega arith
 turns_more s (Does host d) = omega arith
@@ -170,7 +170,7 @@ begun_does n m k e = grind (arith, nat_tests, e)
 begun_step : (n k j : ℕ) → k ≡ j + 1 → begun_by n k ≡ (begun_by n j || true)
 begun_step n k j e = grind (arith, nat_tests, e)
 
-begun_more : (s : Scenario) (item : Item) → HasHost s item → is_begun (with_item s item) ≡ (is_begun s || (is_step item || is_does item))
+pub begun_more : (s : Scenario) (item : Item) → HasHost s item → is_begun (with_item s item) ≡ (is_begun s || (is_step item || is_does item))
 begun_more s (Volume id g) there = begun_none (is_begun s)
 begun_more s (Host name) there =
     let same : count_of_directives (with_item s (Host name)) ≡ count_of_directives s = omega (arith, directives_more s (Host name) tt) in
@@ -181,7 +181,7 @@ begun_more s (Does host d) there =
 begun_more s (Step host count) there =
     begun_step (count_of_directives s) (length (s.steps ++ (host, count) ∷ [])) (length s.steps) (steps_push s.steps (host, count))
 
-are_more : (s : Scenario) (item : Item) → AreNames (names_of s.hosts) → MayStand (names_of s.hosts) (is_begun s) item
+pub are_more : (s : Scenario) (item : Item) → AreNames (names_of s.hosts) → MayStand (names_of s.hosts) (is_begun s) item
     → AreNames (names_of (with_item s item).hosts)
 are_more s (Volume id g) are stands = are
 are_more s (Host name) are stands =
@@ -189,7 +189,7 @@ are_more s (Host name) are stands =
 are_more s (Does host d) are stands = subst (λ names. AreNames names) (sym (names-with_directive s.hosts host d)) are
 are_more s (Step host count) are stands = are
 
-length_names : (plans : List HostPlan) → length (names_of plans) ≡ length plans
+pub length_names : (plans : List HostPlan) → length (names_of plans) ≡ length plans
 length_names [] = refl
 length_names (plan ∷ plans) = ap suc (length_names plans)
 
