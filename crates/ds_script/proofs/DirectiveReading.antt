@@ -1,5 +1,5 @@
 -- A directive by its first word: what it means, what it spells, and the fault of it.
-use Rattle.std.proofs.Common.{◌≡◌, ℕ, Bool, true, false, not, cond, List, [], ◌∷◌, ◌++◌, length, map, Ok, Err, Option, Some, None, refl, ap, sym, ◌∙◌, subst}
+use Rattle.std.proofs.Common.{◌≡◌, ℕ, ◌+◌, ◌^◌, ◌≤◌, ◌<◌, Bool, true, false, not, cond, List, [], ◌∷◌, ◌++◌, length, map, Result, Ok, Err, Option, Some, None, refl, ap, sym, ◌∙◌, subst, arith}
 use Rattle.std.specs.Prelude.{IfOk, IfSome, codes, decimal, find, if◌then◌else◌}
 use Rattle.std.specs.Option.{option_map_or}
 use Rattle.std.specs.Str.{bytes_eq}
@@ -12,7 +12,7 @@ use Rattle.ds_tree.specs.declared.scenarios.Directive.{Directive}
 use Rattle.ds_tree.specs.declared.scenarios.Directive.TheVariants as directives
 use Rattle.ds_tree.specs.declared.variables.Spoken.{Spoken}
 use Rattle.ds_tree.specs.Lines.{Words, is_word}
-use Rattle.ds_tree.specs.Grammar.{as_part, point_word, SpellsCall, SpellsTreeCall, Spells, Fits, FitsCall, FitsTreeCall, GivesKey, IsNameOf}
+use Rattle.ds_tree.specs.Grammar.{as_part, point_word, landing_word, SpellsCall, SpellsTreeCall, Spells, Fits, FitsCall, FitsTreeCall, GivesKey, IsNameOf}
 use Rattle.ds_tree.specs.Variables.{IsVariable}
 use Rattle.ds_script.specs.declared.faults.LineFault.{LineFault}
 use Rattle.ds_script.specs.declared.faults.LineFault.TheVariants as faults
@@ -69,7 +69,7 @@ module _ (names : Words) where
   table_tells (e ∷ es) w ws =
       entry_tells e ws (find (λ r. bytes_eq w r.word) (map row_of es)) (by_entry es w ws) (table_tells es w ws) (bytes_eq w e.word)
 
-  -- The table of all directives.
+-- The table of all directives.
 
   abbrev entry : (word : List ℕ) (shape : Shape) {read : Words → Reads Directive} → IsDirective names word shape read → Entry names
   entry word shape {read} is = record { word = word; shape = shape; read = read; is = is }
@@ -130,7 +130,7 @@ module _ (names : Words) where
     directive_tells [] = refl
     directive_tells (w ∷ ws) = word_tells w ws (is_word w)
 
-  -- What is spelled is read.
+-- What is spelled is read.
 
   append_none : (ws : Words) → ws ++ [] ≡ ws
   append_none [] = refl

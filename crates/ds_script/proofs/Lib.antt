@@ -27,3 +27,5 @@ mod StateLaws
 mod LineOrder
 mod TextLaws
 mod ReadAgain
+mod Growth
+mod Within

@@ -1,6 +1,6 @@
 -- The lines behind the volume line in their order: all of them stand and the scenario grows by each, or the first that can't
 -- stand is told.
-use Rattle.std.proofs.Common.{◌≡◌, ℕ, ◌+◌, ◌≤◌, ◌<◌, inl, inr, Bool, true, false, not, List, [], ◌∷◌, ◌++◌, length, get_or, take, drop, map, Result, Ok, Err, Option, Some, None, refl, ap, sym, ◌∙◌, subst, arith, length-drop}
+use Rattle.std.proofs.Common.{◌≡◌, ℕ, suc, ◌+◌, ◌≤◌, ◌<◌, ◌⊎◌, inl, inr, Bool, true, false, not, ◌&&◌, List, [], ◌∷◌, ◌++◌, length, get_or, take, drop, map, Result, Ok, Err, Option, Some, None, refl, ap, sym, ◌∙◌, subst, arith, length-drop}
 use Rattle.std.specs.Prelude.{IfOk, filter, if◌then◌else◌, option_map}
 use Rattle.std.specs.Option.{option_map_or}
 use Rattle.std.proofs.lemmas.Bool.{cases_eq}
@@ -19,6 +19,7 @@ use Rattle.ds_script.specs.Faults.{is_body_line, line_fault, limit_passed, Troub
 use Rattle.ds_script.specs.Reading.{◌>>=◌, Reads, item_at, is_begun, limit_at, with_item, is_unarmed, on_line, line_read, read_from}
 use Rattle.ds_script.proofs.Readers.{fault_in}
 use Rattle.ds_script.proofs.Fronts.{words_of-none}
+use Rattle.ds_script.proofs.LookupLaws.{AreNames}
 use Rattle.ds_script.proofs.ItemLaws.{SaysItem, item_fault, item_means, item_tells}
 use Rattle.ds_script.proofs.ItemEffects.{wants_call, unarmed_same}
 use Rattle.ds_script.proofs.StateLaws.{IsState, state_more, limit_same}
@@ -65,7 +66,7 @@ module _ (s : Scenario) (number : ℕ) (ws : Words) (behind : List (List ℕ)) w
   taken_gives : (item : Item) → SaysItem (names_of s.hosts) (is_begun s) ws item
       → (u : Bool) (l : Option What) → is_unarmed item ws behind ≡ u → limit_at s item ≡ l
       → LineGives s number ws behind (judged None u l)
-      (if u then Err (BadLine number faults.Arm) else option_map_or (λ what. Err (TooLarge what)) l (Ok (with_item s item)))
+          (if u then Err (BadLine number faults.Arm) else option_map_or (λ what. Err (TooLarge what)) l (Ok (with_item s item)))
   taken_gives item says true l e f = record { why = Bad faults.Arm; is = refl; told = refl }
   taken_gives item says false (Some what) e f = record { why = Large what; is = refl; told = refl }
   taken_gives item says false None e f = record {
@@ -87,7 +88,7 @@ module _ (s : Scenario) (number : ℕ) (ws : Words) (behind : List (List ℕ)) w
         let same : in_scenario (first ∷ rest) ws behind ≡ judged None (is_unarmed item ws behind) (limit_at s item) =
         ap (λ (f : Option LineFault). judged f (wants_call ws behind) (limit_passed (first ∷ rest) ws)) e
         ∙ (ap (λ (b : Bool). judged None b (limit_passed (first ∷ rest) ws))
-        (unarmed_same (names_of s.hosts) state.are (is_begun s) ws item behind says)
+          (unarmed_same (names_of s.hosts) state.are (is_begun s) ws item behind says)
         ∙ ap (λ (l : Option What). judged None (is_unarmed item ws behind) l) (limit_same s first rest ws item state says)) in
         subst (λ (t : Option Trouble). LineGives s number ws behind t (with_taken item)) (sym same)
         (taken_gives item says (is_unarmed item ws behind) (limit_at s item) refl refl)
@@ -172,7 +173,7 @@ pub record IsAt (lines : List (List ℕ)) (n : ℕ) (line : List ℕ) (behind : 
   pub later : drop (n + 1) lines ≡ behind
   pub kept_more : kept (take (n + 1) lines) ≡ kept (take n lines) ++ kept (line ∷ [])
 
-kept-append : (xs ys : List (List ℕ)) → kept (xs ++ ys) ≡ kept xs ++ kept ys
+pub kept-append : (xs ys : List (List ℕ)) → kept (xs ++ ys) ≡ kept xs ++ kept ys
 kept-append xs ys =
     ap (filter (λ (ws : Words). not (is_comment ws))) (map-append words_of xs ys)
     ∙ filter-append (λ (ws : Words). not (is_comment ws)) (map words_of xs) (map words_of ys)
@@ -211,7 +212,7 @@ module _ (lines : List (List ℕ)) (n : ℕ) (s : Scenario) (line : List ℕ) (b
   -- where this line is read, and then those behind it
   line_then : is_comment (words_of line) ≡ false
       → ((item : Item) → IsTaken s (words_of line) behind item
-      → ReadGives lines (n + 1) (with_item s item) behind (read_from (with_item s item) (n + 1 + 1) behind))
+        → ReadGives lines (n + 1) (with_item s item) behind (read_from (with_item s item) (n + 1 + 1) behind))
       → (r : Result Scenario ScriptFault) → LineGives s (n + 1) (words_of line) behind (trouble_at in_scenario lines n) r
       → ReadGives lines n s (line ∷ behind) (r >>= (λ next. read_from next (n + 1 + 1) behind))
   line_then is rest (Err f) h = record {
@@ -230,29 +231,29 @@ module _ (lines : List (List ℕ)) (n : ℕ) (s : Scenario) (line : List ℕ) (b
 
 by_comment : (lines : List (List ℕ)) (n : ℕ) (s : Scenario) (line : List ℕ) (behind : List (List ℕ)) (first : Words) (rest : List Words)
     → ((t : Scenario) (others : List Words) → drop (n + 1) lines ≡ behind → kept (take (n + 1) lines) ≡ first ∷ others → IsState t others
-    → ReadGives lines (n + 1) t behind (read_from t (n + 1 + 1) behind))
+      → ReadGives lines (n + 1) t behind (read_from t (n + 1 + 1) behind))
     → drop n lines ≡ line ∷ behind → kept (take n lines) ≡ first ∷ rest → IsState s rest → (b : Bool) → is_comment (words_of line) ≡ b
     → ReadGives lines n s (line ∷ behind) (if b then read_from s (n + 1 + 1) behind
-    else line_read s (n + 1) (words_of line) behind >>= (λ next. read_from next (n + 1 + 1) behind))
+          else line_read s (n + 1) (words_of line) behind >>= (λ next. read_from next (n + 1 + 1) behind))
 by_comment lines n s line behind first rest later at so state true is =
     let place = line_at lines n line behind at in
     let stands : trouble_at in_scenario lines n ≡ None =
     passed_stands in_scenario lines n (ap (λ (l : List ℕ). is_comment (words_of l)) place.here ∙ is) in
     one_more lines n s s line behind stands (λ t c. passed is c) (read_from s (n + 1 + 1) behind)
     (later s rest place.later
-    (place.kept_more ∙ (ap (λ (ks : List Words). kept (take n lines) ++ ks) (kept_passed line is)
-    ∙ (append_none (kept (take n lines)) ∙ so))) state)
+      (place.kept_more ∙ (ap (λ (ks : List Words). kept (take n lines) ++ ks) (kept_passed line is)
+      ∙ (append_none (kept (take n lines)) ∙ so))) state)
 by_comment lines n s line behind first rest later at so state false is =
     let place = line_at lines n line behind at in
     line_then lines n s line behind is
     (λ item taken. later (with_item s item) (rest ++ words_of line ∷ []) place.later
-    (place.kept_more ∙ (ap (λ (ks : List Words). kept (take n lines) ++ ks) (kept_line line is)
-    ∙ ap (λ (ks : List Words). ks ++ words_of line ∷ []) so))
-    (state_more s rest (words_of line) item state taken.says))
+      (place.kept_more ∙ (ap (λ (ks : List Words). kept (take n lines) ++ ks) (kept_line line is)
+      ∙ ap (λ (ks : List Words). ks ++ words_of line ∷ []) so))
+      (state_more s rest (words_of line) item state taken.says))
     (line_read s (n + 1) (words_of line) behind)
     (subst (λ (t : Option Trouble). LineGives s (n + 1) (words_of line) behind t (line_read s (n + 1) (words_of line) behind))
-    (sym (trouble_here in_scenario lines n line behind (first ∷ rest) place so is))
-    (line_gives s (n + 1) (words_of line) behind first rest state is))
+      (sym (trouble_here in_scenario lines n line behind (first ∷ rest) place so is))
+      (line_gives s (n + 1) (words_of line) behind first rest state is))
 
 pub read_from_gives : (lines suffix : List (List ℕ)) (n : ℕ) (s : Scenario) (first : Words) (rest : List Words) → drop n lines ≡ suffix
     → kept (take n lines) ≡ first ∷ rest → IsState s rest → ReadGives lines n s suffix (read_from s (n + 1) suffix)

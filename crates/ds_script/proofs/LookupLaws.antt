@@ -1,6 +1,6 @@
 -- What is owed by the fields whose words are looked up, and by keywords.
-use Rattle.std.proofs.Common.{◌≡◌, ℕ, ◌<◌, Bool, true, false, cond, ◌||◌, List, [], ◌∷◌, length, get_or, map, Ok, Err, Option, Some, None, refl, ap, sym, ◌∙◌, arith}
-use Rattle.std.specs.Prelude.{if◌then◌else◌, IfOk, position, find, is_some, nat_lt}
+use Rattle.std.proofs.Common.{◌≡◌, ◌≢◌, ℕ, zero, suc, ◌+◌, ◌≤◌, ◌<◌, ltb, Bool, true, false, not, cond, ◌&&◌, ◌||◌, List, [], ◌∷◌, length, get_or, map, Result, Ok, Err, Option, Some, None, refl, ap, sym, ◌∙◌, subst, arith}
+use Rattle.std.specs.Prelude.{codes, if◌then◌else◌, IfOk, slice_get, position, find, is_some, nat_lt}
 use Rattle.std.specs.List.{list_any, position_or_len}
 use Rattle.std.specs.Option.{option_map_or}
 use Rattle.std.specs.Str.{bytes_eq}
@@ -18,7 +18,7 @@ use Rattle.ds_script.specs.declared.faults.LineFault.TheVariants as faults
 use Rattle.ds_script.specs.Faults.{Class, Shape, Keyword, KnownHost, PointName, Id, Then, suits, fault_of, is_among, point_words}
 use Rattle.ds_script.specs.Reading.{◌>>=◌, Reads, Reader, word_at, host_named, host_at, all_points, point_named, point_at, id_at, keyword_at}
 use Rattle.ds_script.proofs.Readers.{by_word, before, fault_in, IsPick, IsField, IsLine, Behind, then_line, line_same}
-use Rattle.ds_script.proofs.WordLaws.{label_means, is_word-label, bytes_eq-same, bytes_eq-means, bytes_eq-other}
+use Rattle.ds_script.proofs.WordLaws.{IsLabel, label_means, is_word-label, bytes_eq-same, bytes_eq-means, bytes_eq-other}
 use Rattle.ds_script.proofs.FieldLaws.{picked}
 
 -- A pick by what is found.
@@ -96,9 +96,9 @@ host_named-from names are w host is =
     let within = slice_get_within names host w is in
     position_from (bytes_eq w) names host
     (position_or_len_is (bytes_eq w) names host [] (omega (arith, within))
-    (λ k less. bytes_eq-other w (get_or names k [])
-    (λ e. absurd (omega (arith, less, are.apart k host w (slice_get-get_or names k [] (omega (arith, less, within)) ∙ ap Some (sym e)) is))))
-    (λ less. ap (bytes_eq w) (get_or_from_slice_get names host w [] is) ∙ bytes_eq-same w))
+      (λ k less. bytes_eq-other w (get_or names k [])
+        (λ e. absurd (omega (arith, less, are.apart k host w (slice_get-get_or names k [] (omega (arith, less, within)) ∙ ap Some (sym e)) is))))
+      (λ less. ap (bytes_eq w) (get_or_from_slice_get names host w [] is) ∙ bytes_eq-same w))
     within
 
 host_same : (names ws : Words) → host_at names ws ≡ by_word (λ w. found ℕ faults.Host (host_named names w)) ws
@@ -284,5 +284,5 @@ keyword_line B names word shape next Next is line =
     line_same B names (Then (Keyword word) shape) (λ ws. keyword_reader word ws >>= (λ r. next r.1)) (λ ws. keyword_at word ws >>= next)
     (BehindKeyword B word Next)
     (then_line (Unit {0}) B names (IsKeyword word) (λ x. Next) (λ x. next) (Keyword word) shape (keyword_reader word)
-    (keyword_field names word is) (λ x. line))
+      (keyword_field names word is) (λ x. line))
     (λ ws. sym (twice Words (Unit {0} × Words) B (keyword_at word ws) no_value (λ r. next r.1)))

@@ -1,5 +1,5 @@
 -- The scenario of the lines so far, as the table of faults sees those lines.
-use Rattle.std.proofs.Common.{◌≡◌, ℕ, zero, suc, ◌+◌, ◌<◌, ◌⊎◌, inl, inr, Bool, true, false, cond, ◌&&◌, ◌||◌, List, [], ◌∷◌, ◌++◌, length, get_or, map, Some, None, refl, ap, sym, ◌∙◌, subst, arith}
+use Rattle.std.proofs.Common.{◌≡◌, ℕ, zero, suc, ◌+◌, ◌≤◌, ◌<◌, ◌⊎◌, inl, inr, Bool, true, false, not, cond, ◌&&◌, ◌||◌, List, [], ◌∷◌, ◌++◌, length, get_or, map, Option, Some, None, refl, ap, sym, ◌∙◌, subst, arith}
 use Rattle.std.specs.Prelude.{count_by, sum_by, filter, slice_get, nat_lt, nat_le, if◌then◌else◌}
 use Rattle.std.specs.List.{list_any}
 use Rattle.std.specs.Str.{bytes_eq}
@@ -14,7 +14,8 @@ use Rattle.ds_tree.specs.declared.scenarios.Directive.{Directive}
 use Rattle.ds_tree.specs.declared.scenarios.HostPlan.{HostPlan}
 use Rattle.ds_tree.specs.declared.scenarios.Scenario.{Scenario}
 use Rattle.ds_tree.specs.Lines.{Words}
-use Rattle.ds_tree.specs.Grammar.{most_hosts, most_directives, most_steps, IsHostName, names_of, Item, Volume, Host, Does, Step}
+use Rattle.ds_tree.specs.Grammar.{most_hosts, most_directives, most_steps, IsHostName, IsNameOf, names_of, Item, Volume, Host, Does, Step}
+use Rattle.ds_script.specs.declared.faults.What.{What}
 use Rattle.ds_script.specs.declared.faults.What.TheVariants as whats
 use Rattle.ds_script.specs.Faults.{is_among, is_host_line, is_step_line, is_directive_line, is_body_line, word_at, names_in, turns_of, limit_passed}
 use Rattle.ds_script.specs.Reading.{count_of_directives, count_of_turns, is_begun, limit_at, with_directive, with_item}
@@ -101,7 +102,7 @@ names_push names name are host fresh = record {
 abbrev bit : Bool → ℕ
 bit b = cond b 1 0
 
-names_more : (s : Scenario) (item : Item) → names_of (with_item s item).hosts ≡ names_of s.hosts ++ names_added item
+pub names_more : (s : Scenario) (item : Item) → names_of (with_item s item).hosts ≡ names_of s.hosts ++ names_added item
 names_more s (Volume id g) = none (names_of s.hosts)
   where
     none : (ws : Words) → ws ≡ ws ++ []
@@ -123,7 +124,7 @@ plans_push : (plans : List HostPlan) (plan : HostPlan) → length (plans ++ plan
 plans_push [] plan = omega arith
 plans_push (x ∷ plans) plan = omega (arith, plans_push plans plan)
 
-hosts_more : (s : Scenario) (item : Item) → length (with_item s item).hosts ≡ length s.hosts + bit (is_host item)
+pub hosts_more : (s : Scenario) (item : Item) → length (with_item s item).hosts ≡ length s.hosts + bit (is_host item)
 hosts_more s (Volume id g) = omega arith
 hosts_more s (Host name) = plans_push s.hosts (record { name = name; list = [] })
 hosts_more s (Does host d) = omega (arith, length-with_directive s.hosts host d)
@@ -134,7 +135,7 @@ abbrev pub HasHost : Scenario → Item → Type 0
 HasHost s (Does host d) = host < length s.hosts
 HasHost s _ = Unit {0}
 
-directives_more : (s : Scenario) (item : Item) → HasHost s item
+pub directives_more : (s : Scenario) (item : Item) → HasHost s item
     → count_of_directives (with_item s item) ≡ count_of_directives s + bit (is_does item)
 directives_more s (Volume id g) there = omega arith
 directives_more s (Host name) there =
@@ -143,7 +144,7 @@ directives_more s (Host name) there =
 directives_more s (Does host d) there = count-with_directive s.hosts host d there
 directives_more s (Step host count) there = omega arith
 
-turns_more : (s : Scenario) (item : Item) → count_of_turns (with_item s item) ≡ count_of_turns s + turns_added item
+pub turns_more : (s : Scenario) (item : Item) → count_of_turns (with_item s item) ≡ count_of_turns s + turns_added item
 turns_more s (Volume id g) = omega arith
 turns_more s (Host name) = omega arith
 turns_more s (Does host d) = omega arith
@@ -169,7 +170,7 @@ begun_does n m k e = grind (arith, nat_tests, e)
 begun_step : (n k j : ℕ) → k ≡ j + 1 → begun_by n k ≡ (begun_by n j || true)
 begun_step n k j e = grind (arith, nat_tests, e)
 
-begun_more : (s : Scenario) (item : Item) → HasHost s item → is_begun (with_item s item) ≡ (is_begun s || (is_step item || is_does item))
+pub begun_more : (s : Scenario) (item : Item) → HasHost s item → is_begun (with_item s item) ≡ (is_begun s || (is_step item || is_does item))
 begun_more s (Volume id g) there = begun_none (is_begun s)
 begun_more s (Host name) there =
     let same : count_of_directives (with_item s (Host name)) ≡ count_of_directives s = omega (arith, directives_more s (Host name) tt) in
@@ -180,7 +181,7 @@ begun_more s (Does host d) there =
 begun_more s (Step host count) there =
     begun_step (count_of_directives s) (length (s.steps ++ (host, count) ∷ [])) (length s.steps) (steps_push s.steps (host, count))
 
-are_more : (s : Scenario) (item : Item) → AreNames (names_of s.hosts) → MayStand (names_of s.hosts) (is_begun s) item
+pub are_more : (s : Scenario) (item : Item) → AreNames (names_of s.hosts) → MayStand (names_of s.hosts) (is_begun s) item
     → AreNames (names_of (with_item s item).hosts)
 are_more s (Volume id g) are stands = are
 are_more s (Host name) are stands =
@@ -188,7 +189,7 @@ are_more s (Host name) are stands =
 are_more s (Does host d) are stands = subst (λ names. AreNames names) (sym (names-with_directive s.hosts host d)) are
 are_more s (Step host count) are stands = are
 
-length_names : (plans : List HostPlan) → length (names_of plans) ≡ length plans
+pub length_names : (plans : List HostPlan) → length (names_of plans) ≡ length plans
 length_names [] = refl
 length_names (plan ∷ plans) = ap suc (length_names plans)
 
@@ -218,13 +219,8 @@ state_more s rest ws item state says =
           ∙ (ap (λ (b : Bool). b || (is_body_line ws || false)) state.begun
           ∙ (ap (λ (b : Bool). is_begun s || b) (body ∙ none (is_step item || is_does item)) ∙ sym (begun_more s item there)));
       hosts = omega (arith, sum_by_push (λ (ws : Words). bit (is_host_line ws)) rest ws, state.hosts, ap bit kind.host, hosts_more s item);
-      directives = omega (
-        arith,
-        sum_by_push (λ (ws : Words). bit (is_directive_line ws)) rest ws,
-        state.directives,
-        ap bit kind.directive,
-        directives_more s item there,
-      );
+      directives = omega (arith, sum_by_push (λ (ws : Words). bit (is_directive_line ws)) rest ws, state.directives, ap bit kind.directive,
+          directives_more s item there);
       steps = omega (arith, sum_by_push turns_of rest ws, state.steps, kind.turns, turns_more s item);
       are = are_more s item state.are says.stands;
     }
@@ -249,9 +245,9 @@ limit_same s first rest ws item state says = rw (state.hosts, state.directives, 
   where
     by_kind : (item : Item) → IsKindOf ws item → MayStand (names_of s.hosts) (is_begun s) item
         → (if is_host_line ws && nat_le most_hosts (length s.hosts) then Some whats.Hosts
-        else if is_directive_line ws && nat_le most_directives (count_of_directives s) then Some whats.Directives
-        else if is_step_line ws && nat_lt most_steps (count_of_turns s + turns_of ws) then Some whats.Steps
-        else None) ≡ limit_at s item
+          else if is_directive_line ws && nat_le most_directives (count_of_directives s) then Some whats.Directives
+          else if is_step_line ws && nat_lt most_steps (count_of_turns s + turns_of ws) then Some whats.Steps
+          else None) ≡ limit_at s item
     by_kind (Volume id g) kind stands = absurd stands
     by_kind (Host name) kind stands = rw (kind.host, kind.directive, kind.step) refl
     by_kind (Does host d) kind stands = rw (kind.host, kind.directive, kind.step) refl

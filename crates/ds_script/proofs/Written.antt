@@ -1,10 +1,11 @@
 -- Lines that are written in one way: what they say is made of values, each of which has one word.
-use Rattle.std.proofs.Common.{◌≡◌, ℕ, List, [], ◌∷◌, Ok, Err, Option, Some, None, refl, ap, sym, ◌∙◌, subst, true}
-use Rattle.std.specs.Prelude.{IfOk, IfSome}
+use Rattle.std.proofs.Common.{◌≡◌, ℕ, List, [], ◌∷◌, length, get_or, Result, Ok, Err, Option, Some, None, refl, ap, sym, ◌∙◌, subst, true}
+use Rattle.std.specs.Prelude.{IfOk, IfSome, codes}
 use Rattle.ds_tree.specs.Lines.{Words, is_word}
+use Rattle.ds_script.specs.declared.faults.LineFault.{LineFault}
 use Rattle.ds_script.specs.Faults.{Class, Shape, End, Then, Maybe, Keyword, first_fault}
 use Rattle.ds_script.specs.Reading.{◌>>=◌, Reads, Reader, keyword_at, end_at}
-use Rattle.ds_script.proofs.Readers.{fault_in, IsField, IsLine, Behind, AtEnd, IfOk-like, then_line, end_line, line_like}
+use Rattle.ds_script.proofs.Readers.{fault_in, IsField, IsLine, Behind, AtEnd, IfOk-like, then_line, end_line, line_like, line_same}
 use Rattle.ds_script.proofs.LookupLaws.{BehindKeyword, keyword_line}
 
 -- words that are those of a value which fits, and what is made of it
@@ -137,8 +138,8 @@ module _ (B : Type 0) (names : Words) (word : List ℕ) (class : Class) (name_at
     optional_means (w ∷ ws) =
         subst (λ (r : Reads B). IfOk r (WrittenOptional (w ∷ ws))) (sym (optional_given w ws))
         (IfOk-like (Given (w ∷ ws)) (WrittenOptional (w ∷ ws)) (given (w ∷ ws))
-        (λ y h. record { value = Some h.value.0; is = h.is ∙ sym (some h.value.0); fits = h.fits.0; made = h.made })
-        (line.means (w ∷ ws)))
+          (λ y h. record { value = Some h.value.0; is = h.is ∙ sym (some h.value.0); fits = h.fits.0; made = h.made })
+          (line.means (w ∷ ws)))
 
     optional_tells : (ws : Words) → first_fault names (Maybe (Then (Keyword word) (Then class End))) ws ≡ fault_in (optional_end ws)
     unfolding optional_at end_at first_fault
