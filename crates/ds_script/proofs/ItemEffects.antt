@@ -20,7 +20,7 @@ use Rattle.ds_script.proofs.ItemLaws.{MayStand, SaysItem}
 
 -- The first word of a directive.
 
-abbrev tree_call_word : CallOf Spoken → List ℕ
+abbrev pub tree_call_word : CallOf Spoken → List ℕ
 tree_call_word (calls.Mkdir dir name) = codes "mkdir"
 tree_call_word (calls.Create dir name) = codes "create"
 tree_call_word (calls.Lookup dir name) = codes "lookup"
@@ -34,7 +34,7 @@ tree_call_word (calls.Rename dir name to fresh) = codes "rename"
 tree_call_word (calls.OpenFile file) = codes "open"
 tree_call_word (calls.At file index) = codes "at"
 
-abbrev call_word : HostCallOf Spoken → List ℕ
+abbrev pub call_word : HostCallOf Spoken → List ℕ
 call_word (host_calls.Tree call) = tree_call_word call
 call_word host_calls.Register = codes "register"
 call_word host_calls.Unregister = codes "unregister"
@@ -44,7 +44,7 @@ call_word (host_calls.Close file) = codes "close"
 call_word (host_calls.Put file sector fill) = codes "put"
 call_word (host_calls.Get file sector) = codes "get"
 
-abbrev directive_word : Directive → List ℕ
+abbrev pub directive_word : Directive → List ℕ
 directive_word (directives.Call call bind) = call_word call
 directive_word (directives.Tick n) = codes "tick"
 directive_word (directives.Wait host directive) = codes "wait"
@@ -54,11 +54,11 @@ directive_word (directives.Fail point landed) = codes "fail"
 directive_word directives.Die = codes "die"
 directive_word directives.Return = codes "return"
 
-abbrev first_of : Words → List ℕ
+abbrev pub first_of : Words → List ℕ
 first_of ws = word_at ws 0
 
 -- the words begin with this one
-abbrev Begins : Words → List ℕ → Type 0
+abbrev pub Begins : Words → List ℕ → Type 0
 Begins ws w = (rest : Words) × (ws ≡ w ∷ rest)
 
 tree_call_begins : (call : CallOf Spoken) (ws : Words) → SpellsTreeCall ws call → Begins ws (tree_call_word call)
@@ -85,7 +85,7 @@ call_begins (host_calls.Close file) ws h = (_, h)
 call_begins (host_calls.Put file sector fill) ws h = (_, h)
 call_begins (host_calls.Get file sector) ws h = (_, h)
 
-directive_begins : (names ws : Words) (d : Directive) → Spells names ws d → Begins ws (directive_word d)
+pub directive_begins : (names ws : Words) (d : Directive) → Spells names ws d → Begins ws (directive_word d)
 directive_begins names ws (directives.Call call bind) h =
     let front = call_begins call h.0 h.1 in
     (front.0 ++ as_part bind, h.2 ∙ ap (λ (f : Words). f ++ as_part bind) front.1)

@@ -27,5 +27,7 @@ mod StateLaws
 mod LineOrder
 mod TextLaws
 mod ReadAgain
+mod ArmedLines
+mod ArmedHosts
 mod Growth
 mod Within
