@@ -23,3 +23,4 @@ mod LineOrder
 mod TextLaws
 mod Growth
 mod Within
+mod ScenarioLaws
