@@ -20,7 +20,7 @@ use Rattle.ds_script.proofs.LineOrder.{IsTaken, Continues, done, passed, more}
 
 -- What is spelled stays so where hosts are added.
 
-slice_get_more : (xs ys : Words) (i : ℕ) (x : List ℕ) → slice_get xs i ≡ Some x → slice_get (xs ++ ys) i ≡ Some x
+pub slice_get_more : (xs ys : Words) (i : ℕ) (x : List ℕ) → slice_get xs i ≡ Some x → slice_get (xs ++ ys) i ≡ Some x
 slice_get_more [] ys i x e = absurd cc
 slice_get_more (y ∷ xs) ys zero x e = e
 slice_get_more (y ∷ xs) ys (suc i) x e = slice_get_more xs ys i x e
@@ -44,20 +44,20 @@ module _ (names news : Words) where
 
 -- The lists of the hosts.
 
-at_same : (plans : List HostPlan) (host : ℕ) (d : Directive) → host < length plans
+pub at_same : (plans : List HostPlan) (host : ℕ) (d : Directive) → host < length plans
     → list_at (with_directive plans host d) host ≡ list_at plans host ++ d ∷ []
 at_same [] host d less = absurd (omega (arith, less))
 at_same (plan ∷ plans) zero d less = refl
 at_same (plan ∷ plans) (suc host) d less = at_same plans host d (omega (arith, less))
 
-at_other : (plans : List HostPlan) (host other : ℕ) (d : Directive) → host ≢ other → list_at (with_directive plans other d) host ≡ list_at plans host
+pub at_other : (plans : List HostPlan) (host other : ℕ) (d : Directive) → host ≢ other → list_at (with_directive plans other d) host ≡ list_at plans host
 at_other [] host other d ne = refl
 at_other (plan ∷ plans) zero zero d ne = absurd (ne refl)
 at_other (plan ∷ plans) zero (suc other) d ne = refl
 at_other (plan ∷ plans) (suc host) zero d ne = refl
 at_other (plan ∷ plans) (suc host) (suc other) d ne = at_other plans host other d (λ e. ne (ap suc e))
 
-at_new : (plans : List HostPlan) (name : List ℕ) (host : ℕ) → list_at (plans ++ record { name = name; list = [] } ∷ []) host ≡ list_at plans host
+pub at_new : (plans : List HostPlan) (name : List ℕ) (host : ℕ) → list_at (plans ++ record { name = name; list = [] } ∷ []) host ≡ list_at plans host
 at_new [] name zero = refl
 at_new [] name (suc host) = refl
 at_new (plan ∷ plans) name zero = refl
@@ -67,7 +67,7 @@ at_new (plan ∷ plans) name (suc host) = at_new plans name host
 abbrev pub directives_in : ℕ → List Item → List Directive
 directives_in host items = filter_map (directive_of host) items
 
-none_more : (list : List Directive) → list ≡ list ++ []
+pub none_more : (list : List Directive) → list ≡ list ++ []
 none_more [] = refl
 none_more (d ∷ list) = ap (λ (ds : List Directive). d ∷ ds) (none_more list)
 

@@ -24,3 +24,5 @@ mod TextLaws
 mod Growth
 mod Within
 mod ScenarioLaws
+mod ArmedCalls
+mod AnswerLaws

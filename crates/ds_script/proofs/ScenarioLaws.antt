@@ -11,11 +11,15 @@ use Rattle.ds_tree.specs.declared.scenarios.Scenario.{Scenario}
 use Rattle.ds_tree.specs.Lines.{Words, lines_of, words_of, kept}
 use Rattle.ds_tree.specs.Grammar.{most_bytes, names_of, Fits, IsStep, IsPlan, IsScenario, HasFourKinds, AreArmed, Item, Volume, Host, Does, Step, SpellsItem, SpellsText, directive_of, step_of}
 use Rattle.ds_tree.specs.PlainPass.{directives_of, list_at}
+use Rattle.ds_layout.specs.Places.{total_of}
+use Rattle.ds_script.specs.Faults.{most_sectors}
+use Rattle.ds_script.specs.Answers.{IsInOrder}
 use Rattle.ds_script.specs.Reading.{scenario_of}
 use Rattle.ds_script.proofs.LookupLaws.{AreNames}
 use Rattle.ds_script.proofs.LineOrder.{kept-append}
 use Rattle.ds_script.proofs.TextLaws.{TextStands}
 use Rattle.ds_script.proofs.Growth.{MayBe, Grows, grows, directives_in, steps_in}
+use Rattle.ds_script.proofs.ArmedCalls.{new_is_armed}
 use Rattle.ds_script.proofs.Within.{IsWithinLimits, stays_within}
 
 all_from_index : (A : Type 0) (P : A → Type 0) (xs : List A) → ((i : ℕ) (x : A) → slice_get xs i ≡ Some x → P x) → AllByRecursion P xs
@@ -96,19 +100,24 @@ module _ (bytes : List ℕ) (s : Scenario) (h : TextStands (lines_of bytes) s) w
   list_of : (host : ℕ) (plan : HostPlan) → slice_get s.hosts host ≡ Some plan → plan.list ≡ directives_in host growth.body
   list_of host plan e = sym (ap directives_of e) ∙ growth.lists host
 
-  is_plan : EachIsArmed s.hosts → (host : ℕ) (plan : HostPlan) → slice_get s.hosts host ≡ Some plan → IsPlan (length s.hosts) plan
-  is_plan armed host plan e = record {
+  each_is_armed : EachIsArmed s.hosts
+  each_is_armed host plan e =
+      subst (λ (list : List Directive). AreArmed list) (ap directives_of e)
+      (new_is_armed (scenario_of volume) s h.r.2 host h.all.continues (within_first volume).are refl)
+
+  is_plan : (host : ℕ) (plan : HostPlan) → slice_get s.hosts host ≡ Some plan → IsPlan (length s.hosts) plan
+  is_plan host plan e = record {
     name = within.are.hosts host plan.name (name_of_plan s.hosts host plan e);
     fit = subst (λ (list : List Directive). AllByRecursion (Fits (length s.hosts)) list) (sym (list_of host plan e))
         (fits_in (length s.hosts) host growth.body growth.stands);
-    armed = armed host plan e;
+    armed = each_is_armed host plan e;
   }
 
-  pub text_scenario : EachIsArmed s.hosts → IsScenario s
-  text_scenario armed = record {
+  pub text_scenario : IsScenario s
+  text_scenario = record {
     four = subst (λ (g : Geom). HasFourKinds g) (sym growth.geom) h.first.volume.says.four;
     geometry = subst (λ (g : Geom). IsGeom g) (sym growth.geom) h.first.volume.says.geometry;
-    plans = all_from_index HostPlan (IsPlan (length s.hosts)) s.hosts (is_plan armed);
+    plans = all_from_index HostPlan (IsPlan (length s.hosts)) s.hosts (is_plan);
     apart = within.are.apart;
     steps = subst (λ (steps : List (ℕ × ℕ)). AllByRecursion (IsStep (length s.hosts)) steps) (sym growth.steps)
         (steps_fit (length s.hosts) growth.body growth.stands);
@@ -117,14 +126,21 @@ module _ (bytes : List ℕ) (s : Scenario) (h : TextStands (lines_of bytes) s) w
     few_steps = within.few_turns;
   }
 
-  -- the text is that scenario, where each directive about a next call has one
-  pub text_spells : EachIsArmed s.hosts → length bytes ≤ most_bytes → SpellsText bytes s
-  text_spells armed few = record {
+  -- the text is that scenario
+  pub text_spells : length bytes ≤ most_bytes → SpellsText bytes s
+  text_spells few = record {
     body = growth.body;
     of_body = growth.of_body;
     lines = all_lines;
     lists = list_of;
     steps = growth.steps;
-    is_scenario = text_scenario armed;
+    is_scenario = text_scenario;
     few_bytes = few;
+  }
+
+  -- and its volume isn't too large
+  pub text_in_order : length bytes ≤ most_bytes → IsInOrder bytes s
+  text_in_order few = record {
+    spells = text_spells few;
+    few_sectors = subst (λ (g : Geom). total_of g ≤ most_sectors) (sym growth.geom) h.first.volume.few;
   }

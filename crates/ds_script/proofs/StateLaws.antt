@@ -35,7 +35,7 @@ pub record IsState (s : Scenario) (rest : List Words) : Type 0 where
 
 -- One directive more.
 
-names-with_directive : (plans : List HostPlan) (host : ℕ) (d : Directive) → names_of (with_directive plans host d) ≡ names_of plans
+pub names-with_directive : (plans : List HostPlan) (host : ℕ) (d : Directive) → names_of (with_directive plans host d) ≡ names_of plans
 names-with_directive [] host d = refl
 names-with_directive (plan ∷ plans) zero d = refl
 names-with_directive (plan ∷ plans) (suc host) d = ap (λ (ws : Words). plan.name ∷ ws) (names-with_directive plans host d)
