@@ -1,21 +1,20 @@
 -- What is told of a text by its reading and its plain pass is its answer.
-use Rattle.std.proofs.Common.{◌≡◌, ℕ, ◌+◌, ◌≤◌, ◌<◌, ◌⊎◌, inl, inr, Bool, true, false, not, ◌&&◌, List, [], ◌∷◌, length, get_or, take, drop, ltb, Result, Ok, Err, Option, Some, None, refl, ap, sym, ◌∙◌, subst, arith}
-use Rattle.std.specs.Prelude.{if◌then◌else◌, nat_lt, nat_le, count_by, sum_by, option_map}
+use Rattle.std.proofs.Common.{◌≡◌, ℕ, ◌+◌, ◌≤◌, inl, inr, Bool, true, false, ◌&&◌, List, [], ◌∷◌, length, get_or, take, drop, Result, Ok, Err, Option, Some, None, refl, ap, sym, subst}
+use Rattle.std.specs.Prelude.{if◌then◌else◌, nat_lt, nat_le, count_by, sum_by}
 use Rattle.std.proofs.lemmas.Bool.{ltb-true, ltb-false}
 use Rattle.ds_layout.specs.Places.{total_of}
 use Rattle.ds_tree.specs.declared.scenarios.Scenario.{Scenario}
 use Rattle.ds_tree.specs.Lines.{Words, lines_of, words_of, is_comment, kept}
 use Rattle.ds_tree.specs.Grammar.{most_bytes, most_hosts, most_directives, most_steps}
-use Rattle.ds_tree.specs.PlainPass.{PassesAll, IsStuck}
 use Rattle.ds_script.specs.declared.faults.LineFault.{LineFault}
 use Rattle.ds_script.specs.declared.faults.ScriptFault.{ScriptFault}
 use Rattle.ds_script.specs.declared.faults.ScriptFault.TheVariants.{BadLine, TooLarge, Stuck, NoMemory}
 use Rattle.ds_script.specs.declared.faults.What.{What}
 use Rattle.ds_script.specs.declared.faults.What.TheVariants as whats
-use Rattle.ds_script.specs.Faults.{most_sectors, line_fault, limit_passed, is_host_line, is_directive_line, is_step_line, turns_of, geometry_of, Trouble, Bad, Large, in_scenario, trouble_at, PassesLimit}
+use Rattle.ds_script.specs.Faults.{most_sectors, line_fault, limit_passed, is_host_line, is_directive_line, is_step_line, turns_of, geometry_of, Large, in_scenario, PassesLimit}
 use Rattle.ds_script.specs.Answers.{IsAnswer, IsTooLarge, IsInOrder, OrNoMemory}
 use Rattle.ds_script.specs.Reading.{text_read, within_bytes}
-use Rattle.ds_script.specs.Results.{TellsPassing, IsReadStuck}
+use Rattle.ds_script.specs.Results.{TellsPassing}
 use Rattle.ds_script.proofs.ItemEffects.{wants_call}
 use Rattle.ds_script.proofs.LineOrder.{judged}
 use Rattle.ds_script.proofs.TextLaws.{TextGives, text_gives, IsFaultOf, fault_told}

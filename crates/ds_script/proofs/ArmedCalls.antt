@@ -1,18 +1,16 @@
 -- A directive about the next call of its host, which the lines behind it don't leave without one, is followed by a call.
-use Rattle.std.proofs.Common.{◌≡◌, ◌≢◌, ℕ, zero, suc, ◌+◌, ◌≤◌, ◌<◌, Bool, true, false, not, cond, ◌&&◌, ◌||◌, ◌⊎◌, inl, inr, List, [], ◌∷◌, ◌++◌, length, map, Option, Some, None, refl, ap, sym, ◌∙◌, subst, arith, append_assoc}
-use Rattle.std.specs.Prelude.{slice_get, filter, find, codes, nat_le, IsTrue}
-use Rattle.std.specs.Option.{option_map_or}
+use Rattle.std.proofs.Common.{◌≡◌, ◌≢◌, ℕ, zero, suc, ◌+◌, Bool, true, false, not, cond, ◌&&◌, ◌||◌, inl, inr, List, [], ◌∷◌, ◌++◌, length, Some, refl, ap, sym, ◌∙◌, subst, arith, append_assoc}
+use Rattle.std.specs.Prelude.{slice_get, filter, codes, nat_le}
 use Rattle.std.specs.Str.{bytes_eq}
-use Rattle.std.proofs.lemmas.Bool.{and_parts, or_parts, cases_eq, cases_Bool, false≢true, not-false}
+use Rattle.std.proofs.lemmas.Bool.{and_parts, or_parts, cases_eq, false≢true, not-false}
 use Rattle.ds_tree.specs.declared.scenarios.Directive.{Directive}
-use Rattle.ds_tree.specs.declared.scenarios.HostPlan.{HostPlan}
 use Rattle.ds_tree.specs.declared.scenarios.Scenario.{Scenario}
-use Rattle.ds_tree.specs.Lines.{Words, words_of, is_comment, is_run, is_word, kept}
-use Rattle.ds_tree.specs.Grammar.{names_of, IsNameOf, IsHostName, AreArmed, is_call, is_arming, is_reserved, Item, Volume, Host, Does, Step}
+use Rattle.ds_tree.specs.Lines.{Words, words_of, is_comment, is_run, is_word}
+use Rattle.ds_tree.specs.Grammar.{names_of, IsNameOf, IsHostName, AreArmed, is_call, is_arming, Item, Volume, Host, Does, Step}
 use Rattle.ds_tree.specs.PlainPass.{list_at}
 use Rattle.ds_script.specs.Faults.{begins_with, word_at, is_first_of, call_rows, is_armed}
 use Rattle.ds_script.specs.Reading.{is_begun, with_directive, with_item, is_unarmed}
-use Rattle.ds_script.proofs.WordLaws.{bytes_eq-means, bytes_eq-other, bytes_eq-same, label_means, is_word-label}
+use Rattle.ds_script.proofs.WordLaws.{bytes_eq-other, bytes_eq-same, label_means, is_word-label}
 use Rattle.ds_script.proofs.LookupLaws.{AreNames}
 use Rattle.ds_script.proofs.ItemLaws.{SaysItem}
 use Rattle.ds_script.proofs.ItemEffects.{directive_word, directive_begins, directive_run, word_is_call}

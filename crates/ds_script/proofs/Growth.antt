@@ -1,10 +1,8 @@
 -- How a scenario grows by the lines behind the volume line: by hosts, then by directives and `step` lines, each in its order.
-use Rattle.std.proofs.Common.{◌≡◌, ◌≢◌, ℕ, zero, suc, ◌+◌, ◌≤◌, ◌<◌, ◌⊎◌, inl, inr, Bool, true, false, not, cond, ◌&&◌, ◌||◌, List, [], ◌∷◌, ◌++◌, length, map, Option, Some, None, refl, ap, sym, ◌∙◌, subst, arith, append_assoc}
-use Rattle.std.specs.Prelude.{slice_get, filter_map, nat_eq, codes, if◌then◌else◌}
+use Rattle.std.proofs.Common.{◌≡◌, ◌≢◌, ℕ, zero, suc, ◌<◌, inl, inr, Bool, true, false, ◌||◌, List, [], ◌∷◌, ◌++◌, length, map, Some, None, refl, ap, sym, ◌∙◌, subst, arith, append_assoc}
+use Rattle.std.specs.Prelude.{slice_get, filter_map, nat_eq, if◌then◌else◌}
 use Rattle.std.specs.List.{AllByRecursion, AllZip, cons_option}
 use Rattle.std.proofs.lemmas.Bool.{cases_eq, eq-eqb, ne_eqb, false≢true}
-use Rattle.std.proofs.lemmas.List.{map-append}
-use Rattle.ds_base.specs.declared.geometry.Geom.{Geom}
 use Rattle.ds_tree.specs.declared.scenarios.Directive.{Directive}
 use Rattle.ds_tree.specs.declared.scenarios.Directive.TheVariants as directives
 use Rattle.ds_tree.specs.declared.scenarios.HostPlan.{HostPlan}
@@ -16,7 +14,7 @@ use Rattle.ds_script.specs.Reading.{is_begun, with_directive, with_item}
 use Rattle.ds_script.proofs.ItemLaws.{SaysItem}
 use Rattle.ds_script.proofs.ItemEffects.{is_does, is_step, names_added}
 use Rattle.ds_script.proofs.StateLaws.{HasHost, has_host, names_more, begun_more, length_names}
-use Rattle.ds_script.proofs.LineOrder.{IsTaken, Continues, done, passed, more}
+use Rattle.ds_script.proofs.LineOrder.{Continues, done, passed, more}
 
 -- What is spelled stays so where hosts are added.
 

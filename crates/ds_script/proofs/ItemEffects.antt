@@ -1,5 +1,5 @@
 -- What a line adds: the measures by which the table of faults sees it are those of the item that it spells.
-use Rattle.std.proofs.Common.{◌≡◌, ℕ, ◌+◌, ◌^◌, ◌≤◌, ◌<◌, Bool, true, false, not, ◌&&◌, ◌||◌, List, [], ◌∷◌, ◌++◌, length, Option, Some, None, refl, ap, sym, ◌∙◌, subst, arith}
+use Rattle.std.proofs.Common.{◌≡◌, ℕ, ◌^◌, ◌<◌, Bool, true, false, not, ◌&&◌, ◌||◌, List, [], ◌∷◌, ◌++◌, refl, ap, sym, ◌∙◌, subst, arith}
 use Rattle.std.specs.Prelude.{codes, decimal}
 use Rattle.std.specs.Str.{bytes_eq}
 use Rattle.std.proofs.lemmas.Bool.{or_parts}
@@ -10,13 +10,13 @@ use Rattle.ds_tree.specs.declared.calls.HostCallOf.TheVariants as host_calls
 use Rattle.ds_tree.specs.declared.scenarios.Directive.{Directive}
 use Rattle.ds_tree.specs.declared.scenarios.Directive.TheVariants as directives
 use Rattle.ds_tree.specs.declared.variables.Spoken.{Spoken}
-use Rattle.ds_tree.specs.Lines.{Words, number_of, is_run}
-use Rattle.ds_tree.specs.Grammar.{as_part, IsNameOf, Spells, SpellsCall, SpellsTreeCall, is_call, is_arming, is_reserved, Item, Volume, Host, Does, Step, SpellsItem}
-use Rattle.ds_script.specs.Faults.{is_host_line, is_step_line, is_directive_line, is_body_line, word_at, names_in, turns_of, is_first_of, arming_rows, call_rows, is_arming_line, is_armed}
+use Rattle.ds_tree.specs.Lines.{Words, is_run}
+use Rattle.ds_tree.specs.Grammar.{as_part, Spells, SpellsCall, SpellsTreeCall, is_call, is_arming, is_reserved, Item, Volume, Host, Does, Step}
+use Rattle.ds_script.specs.Faults.{is_host_line, is_step_line, is_directive_line, word_at, names_in, turns_of, is_first_of, arming_rows, call_rows, is_arming_line, is_armed}
 use Rattle.ds_script.specs.Reading.{is_unarmed}
 use Rattle.ds_script.proofs.WordLaws.{number_of-decimal}
 use Rattle.ds_script.proofs.LookupLaws.{AreNames}
-use Rattle.ds_script.proofs.ItemLaws.{MayStand, SaysItem}
+use Rattle.ds_script.proofs.ItemLaws.{SaysItem}
 
 -- The first word of a directive.
 

@@ -1,6 +1,6 @@
 -- A text whose lines all stand is the scenario that is read of it.
-use Rattle.std.proofs.Common.{◌≡◌, ℕ, zero, suc, ◌+◌, ◌≤◌, ◌<◌, Bool, true, false, List, [], ◌∷◌, ◌++◌, length, take, drop, map, Option, Some, None, refl, ap, sym, ◌∙◌, subst, arith}
-use Rattle.std.specs.Prelude.{slice_get, filter_map, nat_eq, if◌then◌else◌}
+use Rattle.std.proofs.Common.{◌≡◌, ℕ, zero, suc, ◌≤◌, Bool, true, false, List, [], ◌∷◌, ◌++◌, length, take, drop, map, Some, None, refl, ap, sym, ◌∙◌, subst, arith}
+use Rattle.std.specs.Prelude.{slice_get, nat_eq, if◌then◌else◌}
 use Rattle.std.specs.List.{AllByRecursion, AllZip, cons_option}
 use Rattle.std.proofs.lemmas.List.{take-append-drop}
 use Rattle.ds_base.specs.declared.geometry.Geom.{Geom}
@@ -9,13 +9,12 @@ use Rattle.ds_tree.specs.declared.scenarios.Directive.{Directive}
 use Rattle.ds_tree.specs.declared.scenarios.HostPlan.{HostPlan}
 use Rattle.ds_tree.specs.declared.scenarios.Scenario.{Scenario}
 use Rattle.ds_tree.specs.Lines.{Words, lines_of, words_of, kept}
-use Rattle.ds_tree.specs.Grammar.{most_bytes, names_of, Fits, IsStep, IsPlan, IsScenario, HasFourKinds, AreArmed, Item, Volume, Host, Does, Step, SpellsItem, SpellsText, directive_of, step_of}
-use Rattle.ds_tree.specs.PlainPass.{directives_of, list_at}
+use Rattle.ds_tree.specs.Grammar.{most_bytes, names_of, Fits, IsStep, IsPlan, IsScenario, HasFourKinds, AreArmed, Item, Volume, Host, Does, Step, SpellsItem, SpellsText}
+use Rattle.ds_tree.specs.PlainPass.{directives_of}
 use Rattle.ds_layout.specs.Places.{total_of}
 use Rattle.ds_script.specs.Faults.{most_sectors}
 use Rattle.ds_script.specs.Answers.{IsInOrder}
 use Rattle.ds_script.specs.Reading.{scenario_of}
-use Rattle.ds_script.proofs.LookupLaws.{AreNames}
 use Rattle.ds_script.proofs.LineOrder.{kept-append}
 use Rattle.ds_script.proofs.TextLaws.{TextStands}
 use Rattle.ds_script.proofs.Growth.{MayBe, Grows, grows, directives_in, steps_in}
