@@ -26,3 +26,4 @@ mod Within
 mod ScenarioLaws
 mod ArmedCalls
 mod AnswerLaws
+mod OnlyLaws
