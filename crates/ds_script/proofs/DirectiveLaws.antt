@@ -1,11 +1,8 @@
 -- What each directive owes: what is read of its words is what they spell, what they spell is read, and the fault that is told
 -- is that of its row.
-use Rattle.std.proofs.Common.{◌≡◌, ◌≢◌, ℕ, ◌+◌, ◌^◌, ◌≤◌, ◌<◌, Bool, true, false, not, cond, List, [], ◌∷◌, ◌++◌, length, get_or, map, Result, Ok, Err, Option, Some, None, refl, ap, sym, ◌∙◌, subst, arith}
-use Rattle.std.specs.Prelude.{IfOk, IfSome, codes, decimal, find, slice_get, if◌then◌else◌}
-use Rattle.std.specs.Option.{option_map_or}
-use Rattle.std.specs.Str.{bytes_eq}
-use Rattle.std.proofs.lemmas.Option.{get_or_from_slice_get, slice_get-get_or, slice_get_within}
-use Rattle.ds_tree.specs.declared.calls.CallOf.{CallOf}
+use Rattle.std.proofs.Common.{◌≡◌, ℕ, ◌^◌, ◌<◌, Bool, List, [], ◌∷◌, ◌++◌, length, Ok, Option, Some, None, refl, ap, sym, subst, arith}
+use Rattle.std.specs.Prelude.{IfOk, IfSome, codes, decimal}
+use Rattle.std.proofs.lemmas.Option.{slice_get-get_or}
 use Rattle.ds_tree.specs.declared.calls.CallOf.TheVariants as calls
 use Rattle.ds_tree.specs.declared.calls.HostCallOf.{HostCallOf}
 use Rattle.ds_tree.specs.declared.calls.HostCallOf.TheVariants as host_calls
@@ -13,13 +10,11 @@ use Rattle.ds_tree.specs.declared.scenarios.Directive.{Directive}
 use Rattle.ds_tree.specs.declared.scenarios.Directive.TheVariants as directives
 use Rattle.ds_tree.specs.declared.scenarios.Point.{Point}
 use Rattle.ds_tree.specs.declared.variables.Spoken.{Spoken}
-use Rattle.ds_tree.specs.Lines.{Words, is_word}
-use Rattle.ds_tree.specs.Grammar.{most_directives, most_ticks, key_word, point_word, landing_word, as_part, after_part, Spells, SpellsCall, Fits, FitsCall, FitsKey, FitsWord, GivesKey, IsAwaited, IsNameOf}
+use Rattle.ds_tree.specs.Lines.{Words}
+use Rattle.ds_tree.specs.Grammar.{most_directives, most_ticks, key_word, point_word, landing_word, as_part, after_part, Spells, SpellsCall, Fits, FitsCall, FitsKey, FitsWord, GivesKey, IsAwaited}
 use Rattle.ds_tree.specs.Variables.{IsVariable}
-use Rattle.ds_script.specs.declared.faults.LineFault.{LineFault}
-use Rattle.ds_script.specs.declared.faults.LineFault.TheVariants as faults
-use Rattle.ds_script.specs.Faults.{Class, Shape, End, Then, Maybe, Keyword, AnyWord, Key, PointName, Landing, Number, named, binding, count, awaited, first_fault, Row, row, call_rows, arming_rows, other_rows, directive_rows, directive_fault}
-use Rattle.ds_script.specs.Reading.{◌>>=◌, Reads, unbound, on_tree, binding_on_tree, register_at, unregister_at, beat_at, scan_at, mkdir_at, create_at, lookup_at, list_at, stat_at, map_at, resize_at, remove_at, rmdir_at, rename_at, open_at, close_at, put_at, get_at, hold_at, crash_at, fail_at, tick_at, wait_at, die_at, return_at}
+use Rattle.ds_script.specs.Faults.{Shape, End, Then, Maybe, Keyword, AnyWord, Key, PointName, Landing, Number, named, binding, count, awaited, first_fault}
+use Rattle.ds_script.specs.Reading.{Reads, unbound, on_tree, binding_on_tree, register_at, unregister_at, beat_at, scan_at, mkdir_at, create_at, lookup_at, list_at, stat_at, map_at, resize_at, remove_at, rmdir_at, rename_at, open_at, close_at, put_at, get_at, hold_at, crash_at, fail_at, tick_at, wait_at, die_at, return_at}
 use Rattle.ds_script.proofs.Readers.{fault_in, IsLine, IfOk-like}
 use Rattle.ds_script.proofs.LookupLaws.{AreNames}
 use Rattle.ds_script.proofs.Written.{Written, written_end}

@@ -1,18 +1,18 @@
 -- The lines of directives, by the fields that they have.
-use Rattle.std.proofs.Common.{◌≡◌, ℕ, ◌+◌, ◌^◌, ◌≤◌, ◌<◌, Bool, true, false, List, [], ◌∷◌, length, get_or, Result, Ok, Err, Option, Some, None, refl, ap, sym, ◌∙◌, subst, arith}
-use Rattle.std.specs.Prelude.{IfOk, IfSome, codes, decimal}
+use Rattle.std.proofs.Common.{◌≡◌, ℕ, ◌^◌, ◌≤◌, ◌<◌, Bool, List, [], ◌∷◌, length, get_or, Ok, Option, Some, refl, ap, sym, arith}
+use Rattle.std.specs.Prelude.{IfSome, codes, decimal}
 use Rattle.std.proofs.lemmas.Option.{get_or_from_slice_get, slice_get-get_or, slice_get_within}
 use Rattle.ds_tree.specs.declared.scenarios.Directive.{Directive}
 use Rattle.ds_tree.specs.declared.scenarios.Point.{Point}
 use Rattle.ds_tree.specs.declared.variables.Spoken.{Spoken}
-use Rattle.ds_tree.specs.Lines.{Words, is_word}
-use Rattle.ds_tree.specs.Grammar.{most_directives, key_word, point_word, landing_word, as_part, after_part, FitsKey, FitsWord, IsHostName}
+use Rattle.ds_tree.specs.Lines.{Words}
+use Rattle.ds_tree.specs.Grammar.{most_directives, key_word, point_word, landing_word, as_part, after_part, FitsKey, FitsWord}
 use Rattle.ds_tree.specs.Variables.{IsVariable}
-use Rattle.ds_script.specs.Faults.{Class, Shape, End, Then, Maybe, Keyword, AnyWord, Key, Variable, KnownHost, FreshHost, PointName, Landing, Number, is_among, named, binding, count, awaited}
-use Rattle.ds_script.specs.Reading.{◌>>=◌, Reads, Reader, word_at, end_at, number_at, count_at, key_at, variable_at, host_at, point_at, landing_at, keyword_at, as_at, after_at, awaited_at}
-use Rattle.ds_script.proofs.Readers.{IsField, IsLine, line_same}
+use Rattle.ds_script.specs.Faults.{End, Then, Maybe, Keyword, AnyWord, Key, Variable, KnownHost, PointName, Landing, Number, named, binding, awaited}
+use Rattle.ds_script.specs.Reading.{◌>>=◌, Reads, word_at, end_at, number_at, key_at, variable_at, host_at, point_at, landing_at, as_at, after_at, awaited_at}
+use Rattle.ds_script.proofs.Readers.{IsLine, line_same}
 use Rattle.ds_script.proofs.WordLaws.{IsNumberWord}
-use Rattle.ds_script.proofs.FieldLaws.{IsWord, IsVariableWord, IsKeyWord, IsLandingWord, IsFreshWord, word_field, variable_field, number_field, key_field, landing_field, fresh_field}
+use Rattle.ds_script.proofs.FieldLaws.{IsWord, IsVariableWord, IsKeyWord, IsLandingWord, word_field, variable_field, number_field, key_field, landing_field}
 use Rattle.ds_script.proofs.LookupLaws.{AreNames, IsHostWord, host_field, IsPointWord, point_field}
 use Rattle.ds_script.proofs.Written.{Written, HasOneWord, written_end, written_then, written_keyword, optional_at, written_optional, twice}
 

@@ -1,5 +1,5 @@
 -- A directive by its first word: what it means, what it spells, and the fault of it.
-use Rattle.std.proofs.Common.{◌≡◌, ℕ, ◌+◌, ◌^◌, ◌≤◌, ◌<◌, Bool, true, false, not, cond, List, [], ◌∷◌, ◌++◌, length, map, Result, Ok, Err, Option, Some, None, refl, ap, sym, ◌∙◌, subst, arith}
+use Rattle.std.proofs.Common.{◌≡◌, ℕ, Bool, true, false, not, cond, List, [], ◌∷◌, ◌++◌, length, map, Ok, Err, Option, Some, None, refl, ap, sym, ◌∙◌, subst}
 use Rattle.std.specs.Prelude.{IfOk, IfSome, codes, decimal, find, if◌then◌else◌}
 use Rattle.std.specs.Option.{option_map_or}
 use Rattle.std.specs.Str.{bytes_eq}
@@ -12,7 +12,7 @@ use Rattle.ds_tree.specs.declared.scenarios.Directive.{Directive}
 use Rattle.ds_tree.specs.declared.scenarios.Directive.TheVariants as directives
 use Rattle.ds_tree.specs.declared.variables.Spoken.{Spoken}
 use Rattle.ds_tree.specs.Lines.{Words, is_word}
-use Rattle.ds_tree.specs.Grammar.{as_part, point_word, landing_word, SpellsCall, SpellsTreeCall, Spells, Fits, FitsCall, FitsTreeCall, GivesKey, IsNameOf}
+use Rattle.ds_tree.specs.Grammar.{as_part, point_word, SpellsCall, SpellsTreeCall, Spells, Fits, FitsCall, FitsTreeCall, GivesKey, IsNameOf}
 use Rattle.ds_tree.specs.Variables.{IsVariable}
 use Rattle.ds_script.specs.declared.faults.LineFault.{LineFault}
 use Rattle.ds_script.specs.declared.faults.LineFault.TheVariants as faults

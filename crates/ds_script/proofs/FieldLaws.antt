@@ -1,28 +1,23 @@
 -- What each field of a line owes.
-use Rattle.std.proofs.Common.{◌≡◌, ◌≢◌, ℕ, zero, suc, ◌+◌, ◌^◌, ◌≤◌, ◌<◌, Bool, true, false, not, ◌&&◌, ◌||◌, List, [], ◌∷◌, length, get_or, Result, Ok, Err, Option, Some, None, refl, ap, sym, ◌∙◌, subst, arith}
-use Rattle.std.specs.Prelude.{codes, if◌then◌else◌, IfOk, slice_get, position, find, option_map, is_some}
-use Rattle.std.specs.List.{list_any, position_or_len}
-use Rattle.std.specs.Option.{option_map_or}
+use Rattle.std.proofs.Common.{◌≡◌, ℕ, ◌^◌, ◌<◌, Bool, true, false, not, ◌&&◌, ◌||◌, List, [], ◌∷◌, Ok, Err, Some, None, refl, ap, ◌∙◌, arith}
+use Rattle.std.specs.Prelude.{codes, if◌then◌else◌, IfOk}
 use Rattle.std.specs.Str.{bytes_eq}
-use Rattle.std.proofs.lemmas.Bool.{and_parts, and_from, false≢true, not_from_false, not-true}
-use Rattle.uuid.specs.Text.{parsed}
+use Rattle.std.proofs.lemmas.Bool.{and_parts, false≢true, not-true}
 use Rattle.ds_base.specs.declared.geometry.GeomField.{GeomField}
 use Rattle.ds_base.specs.declared.geometry.GeomField.TheVariants as fields
 use Rattle.ds_base.specs.declared.geometry.Kind.TheVariants.{Fd, Sb, Pb, Fb}
 use Rattle.ds_base.specs.Geometry.{most_of}
-use Rattle.ds_tree.specs.declared.scenarios.Point.{Point}
-use Rattle.ds_tree.specs.declared.scenarios.Point.TheVariants as points
 use Rattle.ds_tree.specs.declared.variables.Spoken.{Spoken}
 use Rattle.ds_tree.specs.declared.variables.Spoken.TheVariants.{Root, Var}
 use Rattle.ds_tree.specs.Lines.{Words, is_word, is_number, number_of, is_number_in}
-use Rattle.ds_tree.specs.Grammar.{key_word, point_word, landing_word, FitsKey, FitsWord, IsHostName, IsIdWord, IsNameOf, AreDistinct, is_label, is_reserved}
+use Rattle.ds_tree.specs.Grammar.{key_word, landing_word, FitsKey, FitsWord, IsHostName, is_label, is_reserved}
 use Rattle.ds_tree.specs.Variables.{IsVariable}
 use Rattle.ds_script.specs.declared.faults.LineFault.{LineFault}
 use Rattle.ds_script.specs.declared.faults.LineFault.TheVariants as faults
-use Rattle.ds_script.specs.Faults.{Class, Keyword, AnyWord, Key, Variable, KnownHost, FreshHost, PointName, Landing, Number, Size, Id, suits, fault_of, is_among, is_variable, point_words}
-use Rattle.ds_script.specs.Reading.{◌>>=◌, Reads, Reader, bad, word_at, number_at, key_at, variable_at, host_named, host_at, fresh_host_at, all_points, point_named, point_at, landing_at, size_at, id_at, keyword_at}
+use Rattle.ds_script.specs.Faults.{Class, AnyWord, Key, Variable, FreshHost, Landing, Number, Size, suits, fault_of, is_among, is_variable}
+use Rattle.ds_script.specs.Reading.{◌>>=◌, Reads, word_at, number_at, key_at, variable_at, fresh_host_at, landing_at, size_at}
 use Rattle.ds_script.proofs.Readers.{by_word, before, fault_in, IsPick, IsField}
-use Rattle.ds_script.proofs.WordLaws.{IsNumberWord, is_word-decimal, is_number_in-means, is_number_in-decimal, number_of-decimal, IsLabel, label_means, label_from, label-variable, is_word-label, variable_means, variable_from, bytes_eq-same, bytes_eq-means, bytes_eq-other}
+use Rattle.ds_script.proofs.WordLaws.{IsNumberWord, is_word-decimal, is_number_in-means, is_number_in-decimal, number_of-decimal, label_means, label_from, label-variable, is_word-label, variable_means, variable_from, bytes_eq-means, bytes_eq-other}
 
 -- A reader that goes on from a word as it is picked reads by that word.
 

@@ -1,10 +1,8 @@
 -- How a scenario grows by the lines behind the volume line: by hosts, then by directives and `step` lines, each in its order.
-use Rattle.std.proofs.Common.{◌≡◌, ◌≢◌, ℕ, zero, suc, ◌+◌, ◌≤◌, ◌<◌, ◌⊎◌, inl, inr, Bool, true, false, not, cond, ◌&&◌, ◌||◌, List, [], ◌∷◌, ◌++◌, length, map, Option, Some, None, refl, ap, sym, ◌∙◌, subst, arith, append_assoc}
-use Rattle.std.specs.Prelude.{slice_get, filter_map, nat_eq, codes, if◌then◌else◌}
+use Rattle.std.proofs.Common.{◌≡◌, ◌≢◌, ℕ, zero, suc, ◌<◌, inl, inr, Bool, true, false, ◌||◌, List, [], ◌∷◌, ◌++◌, length, map, Some, None, refl, ap, sym, ◌∙◌, subst, arith, append_assoc}
+use Rattle.std.specs.Prelude.{slice_get, filter_map, nat_eq, if◌then◌else◌}
 use Rattle.std.specs.List.{AllByRecursion, AllZip, cons_option}
 use Rattle.std.proofs.lemmas.Bool.{cases_eq, eq-eqb, ne_eqb, false≢true}
-use Rattle.std.proofs.lemmas.List.{map-append}
-use Rattle.ds_base.specs.declared.geometry.Geom.{Geom}
 use Rattle.ds_tree.specs.declared.scenarios.Directive.{Directive}
 use Rattle.ds_tree.specs.declared.scenarios.Directive.TheVariants as directives
 use Rattle.ds_tree.specs.declared.scenarios.HostPlan.{HostPlan}
@@ -16,11 +14,11 @@ use Rattle.ds_script.specs.Reading.{is_begun, with_directive, with_item}
 use Rattle.ds_script.proofs.ItemLaws.{SaysItem}
 use Rattle.ds_script.proofs.ItemEffects.{is_does, is_step, names_added}
 use Rattle.ds_script.proofs.StateLaws.{HasHost, has_host, names_more, begun_more, length_names}
-use Rattle.ds_script.proofs.LineOrder.{IsTaken, Continues, done, passed, more}
+use Rattle.ds_script.proofs.LineOrder.{Continues, done, passed, more}
 
 -- What is spelled stays so where hosts are added.
 
-slice_get_more : (xs ys : Words) (i : ℕ) (x : List ℕ) → slice_get xs i ≡ Some x → slice_get (xs ++ ys) i ≡ Some x
+pub slice_get_more : (xs ys : Words) (i : ℕ) (x : List ℕ) → slice_get xs i ≡ Some x → slice_get (xs ++ ys) i ≡ Some x
 slice_get_more [] ys i x e = absurd cc
 slice_get_more (y ∷ xs) ys zero x e = e
 slice_get_more (y ∷ xs) ys (suc i) x e = slice_get_more xs ys i x e
@@ -44,20 +42,20 @@ module _ (names news : Words) where
 
 -- The lists of the hosts.
 
-at_same : (plans : List HostPlan) (host : ℕ) (d : Directive) → host < length plans
+pub at_same : (plans : List HostPlan) (host : ℕ) (d : Directive) → host < length plans
     → list_at (with_directive plans host d) host ≡ list_at plans host ++ d ∷ []
 at_same [] host d less = absurd (omega (arith, less))
 at_same (plan ∷ plans) zero d less = refl
 at_same (plan ∷ plans) (suc host) d less = at_same plans host d (omega (arith, less))
 
-at_other : (plans : List HostPlan) (host other : ℕ) (d : Directive) → host ≢ other → list_at (with_directive plans other d) host ≡ list_at plans host
+pub at_other : (plans : List HostPlan) (host other : ℕ) (d : Directive) → host ≢ other → list_at (with_directive plans other d) host ≡ list_at plans host
 at_other [] host other d ne = refl
 at_other (plan ∷ plans) zero zero d ne = absurd (ne refl)
 at_other (plan ∷ plans) zero (suc other) d ne = refl
 at_other (plan ∷ plans) (suc host) zero d ne = refl
 at_other (plan ∷ plans) (suc host) (suc other) d ne = at_other plans host other d (λ e. ne (ap suc e))
 
-at_new : (plans : List HostPlan) (name : List ℕ) (host : ℕ) → list_at (plans ++ record { name = name; list = [] } ∷ []) host ≡ list_at plans host
+pub at_new : (plans : List HostPlan) (name : List ℕ) (host : ℕ) → list_at (plans ++ record { name = name; list = [] } ∷ []) host ≡ list_at plans host
 at_new [] name zero = refl
 at_new [] name (suc host) = refl
 at_new (plan ∷ plans) name zero = refl
@@ -67,7 +65,7 @@ at_new (plan ∷ plans) name (suc host) = at_new plans name host
 abbrev pub directives_in : ℕ → List Item → List Directive
 directives_in host items = filter_map (directive_of host) items
 
-none_more : (list : List Directive) → list ≡ list ++ []
+pub none_more : (list : List Directive) → list ≡ list ++ []
 none_more [] = refl
 none_more (d ∷ list) = ap (λ (ds : List Directive). d ∷ ds) (none_more list)
 

@@ -1,5 +1,5 @@
 -- What a line adds: the measures by which the table of faults sees it are those of the item that it spells.
-use Rattle.std.proofs.Common.{◌≡◌, ℕ, ◌+◌, ◌^◌, ◌≤◌, ◌<◌, Bool, true, false, not, ◌&&◌, ◌||◌, List, [], ◌∷◌, ◌++◌, length, Option, Some, None, refl, ap, sym, ◌∙◌, subst, arith}
+use Rattle.std.proofs.Common.{◌≡◌, ℕ, ◌^◌, ◌<◌, Bool, true, false, not, ◌&&◌, ◌||◌, List, [], ◌∷◌, ◌++◌, refl, ap, sym, ◌∙◌, subst, arith}
 use Rattle.std.specs.Prelude.{codes, decimal}
 use Rattle.std.specs.Str.{bytes_eq}
 use Rattle.std.proofs.lemmas.Bool.{or_parts}
@@ -10,13 +10,13 @@ use Rattle.ds_tree.specs.declared.calls.HostCallOf.TheVariants as host_calls
 use Rattle.ds_tree.specs.declared.scenarios.Directive.{Directive}
 use Rattle.ds_tree.specs.declared.scenarios.Directive.TheVariants as directives
 use Rattle.ds_tree.specs.declared.variables.Spoken.{Spoken}
-use Rattle.ds_tree.specs.Lines.{Words, number_of}
-use Rattle.ds_tree.specs.Grammar.{as_part, IsNameOf, Spells, SpellsCall, SpellsTreeCall, is_call, is_arming, is_reserved, Item, Volume, Host, Does, Step, SpellsItem}
-use Rattle.ds_script.specs.Faults.{is_host_line, is_step_line, is_directive_line, is_body_line, word_at, names_in, turns_of, is_first_of, arming_rows, call_rows, is_arming_line, is_armed}
+use Rattle.ds_tree.specs.Lines.{Words, is_run}
+use Rattle.ds_tree.specs.Grammar.{as_part, Spells, SpellsCall, SpellsTreeCall, is_call, is_arming, is_reserved, Item, Volume, Host, Does, Step}
+use Rattle.ds_script.specs.Faults.{is_host_line, is_step_line, is_directive_line, word_at, names_in, turns_of, is_first_of, arming_rows, call_rows, is_arming_line, is_armed}
 use Rattle.ds_script.specs.Reading.{is_unarmed}
 use Rattle.ds_script.proofs.WordLaws.{number_of-decimal}
 use Rattle.ds_script.proofs.LookupLaws.{AreNames}
-use Rattle.ds_script.proofs.ItemLaws.{MayStand, SaysItem}
+use Rattle.ds_script.proofs.ItemLaws.{SaysItem}
 
 -- The first word of a directive.
 
@@ -121,7 +121,7 @@ call_is_call (host_calls.Close file) ws h = refl
 call_is_call (host_calls.Put file sector fill) ws h = refl
 call_is_call (host_calls.Get file sector) ws h = refl
 
-word_is_call : (names ws : Words) (d : Directive) → Spells names ws d → is_first_of call_rows (directive_word d) ≡ is_call d
+pub word_is_call : (names ws : Words) (d : Directive) → Spells names ws d → is_first_of call_rows (directive_word d) ≡ is_call d
 word_is_call names ws (directives.Call call bind) h = call_is_call call h.0 h.1
 word_is_call names ws (directives.Tick n) h = refl
 word_is_call names ws (directives.Wait host directive) h = refl
@@ -175,6 +175,42 @@ pub first_is_arming : (names ws : Words) (d : Directive) → Spells names ws d �
 first_is_arming names ws d h =
     let begins = directive_begins names ws d h in
     ap (λ (ws : Words). is_first_of arming_rows (first_of ws)) begins.1 ∙ word_is_arming d
+
+-- The words of directives are runs.
+
+tree_call_run : (call : CallOf Spoken) → is_run (tree_call_word call) ≡ true
+tree_call_run (calls.Mkdir dir name) = refl
+tree_call_run (calls.Create dir name) = refl
+tree_call_run (calls.Lookup dir name) = refl
+tree_call_run (calls.List dir after) = refl
+tree_call_run (calls.Stat key) = refl
+tree_call_run (calls.Map file page) = refl
+tree_call_run (calls.Resize file blocks) = refl
+tree_call_run (calls.Remove dir name) = refl
+tree_call_run (calls.Rmdir dir name) = refl
+tree_call_run (calls.Rename dir name to fresh) = refl
+tree_call_run (calls.OpenFile file) = refl
+tree_call_run (calls.At file index) = refl
+
+call_run : (call : HostCallOf Spoken) → is_run (call_word call) ≡ true
+call_run (host_calls.Tree call) = tree_call_run call
+call_run host_calls.Register = refl
+call_run host_calls.Unregister = refl
+call_run host_calls.Beat = refl
+call_run host_calls.Scan = refl
+call_run (host_calls.Close file) = refl
+call_run (host_calls.Put file sector fill) = refl
+call_run (host_calls.Get file sector) = refl
+
+pub directive_run : (d : Directive) → is_run (directive_word d) ≡ true
+directive_run (directives.Call call bind) = call_run call
+directive_run (directives.Tick n) = refl
+directive_run (directives.Wait host directive) = refl
+directive_run (directives.Hold point host directive) = refl
+directive_run (directives.Crash point) = refl
+directive_run (directives.Fail point landed) = refl
+directive_run directives.Die = refl
+directive_run directives.Return = refl
 
 -- The measures of an item.
 

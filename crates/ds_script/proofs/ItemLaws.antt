@@ -1,17 +1,17 @@
 -- What the lines behind a volume line owe.
-use Rattle.std.proofs.Common.{◌≡◌, ◌≢◌, ℕ, ◌+◌, ◌^◌, ◌≤◌, ◌<◌, Bool, true, false, not, ◌&&◌, ◌||◌, List, [], ◌∷◌, ◌++◌, length, get_or, Result, Ok, Err, Option, Some, None, refl, ap, sym, ◌∙◌, subst, arith}
+use Rattle.std.proofs.Common.{◌≡◌, ℕ, ◌<◌, Bool, true, false, not, ◌||◌, List, [], ◌∷◌, length, Ok, Err, Option, Some, None, refl, ap, sym, ◌∙◌, subst, arith}
 use Rattle.std.specs.Prelude.{IfOk, codes, decimal, is_some, if◌then◌else◌}
 use Rattle.std.specs.Option.{option_map_or}
 use Rattle.std.specs.Str.{bytes_eq}
 use Rattle.std.proofs.lemmas.Bool.{or_parts}
-use Rattle.std.proofs.lemmas.Option.{get_or_from_slice_get, slice_get-get_or, slice_get_within}
+use Rattle.std.proofs.lemmas.Option.{get_or_from_slice_get, slice_get-get_or}
 use Rattle.ds_tree.specs.declared.scenarios.Directive.{Directive}
-use Rattle.ds_tree.specs.Lines.{Words, is_word, is_comment}
-use Rattle.ds_tree.specs.Grammar.{most_turns, IsHostName, IsNameOf, IsStep, is_reserved, Spells, Fits, Item, Volume, Host, Does, Step, SpellsItem}
+use Rattle.ds_tree.specs.Lines.{Words, is_word}
+use Rattle.ds_tree.specs.Grammar.{most_turns, IsHostName, IsNameOf, IsStep, Spells, Fits, Item, Volume, Host, Does, Step, SpellsItem}
 use Rattle.ds_script.specs.declared.faults.LineFault.{LineFault}
 use Rattle.ds_script.specs.declared.faults.LineFault.TheVariants as faults
-use Rattle.ds_script.specs.Faults.{Shape, End, Then, FreshHost, host_shape, step_shape, first_fault, is_among, directive_fault}
-use Rattle.ds_script.specs.Reading.{◌>>=◌, Reads, word_at, end_at, host_named, host_at, number_at, fresh_host_at, directive_at, host_line_at, step_at, does_at, item_at}
+use Rattle.ds_script.specs.Faults.{End, FreshHost, host_shape, step_shape, first_fault, is_among, directive_fault}
+use Rattle.ds_script.specs.Reading.{◌>>=◌, Reads, word_at, end_at, host_named, fresh_host_at, directive_at, host_line_at, step_at, does_at, item_at}
 use Rattle.ds_script.proofs.Readers.{fault_in, first_word_means, first_word_tells, first_word_again, IsLine, IfOk-like}
 use Rattle.ds_script.proofs.WordLaws.{bytes_eq-means, label_means, is_word-label}
 use Rattle.ds_script.proofs.FieldLaws.{IsFreshWord, fresh_field}

@@ -31,3 +31,7 @@ mod ArmedLines
 mod ArmedHosts
 mod Growth
 mod Within
+mod ScenarioLaws
+mod ArmedCalls
+mod AnswerLaws
+mod OnlyLaws

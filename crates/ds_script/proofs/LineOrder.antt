@@ -1,6 +1,6 @@
 -- The lines behind the volume line in their order: all of them stand and the scenario grows by each, or the first that can't
 -- stand is told.
-use Rattle.std.proofs.Common.{◌≡◌, ℕ, suc, ◌+◌, ◌≤◌, ◌<◌, ◌⊎◌, inl, inr, Bool, true, false, not, ◌&&◌, List, [], ◌∷◌, ◌++◌, length, get_or, take, drop, map, Result, Ok, Err, Option, Some, None, refl, ap, sym, ◌∙◌, subst, arith, length-drop}
+use Rattle.std.proofs.Common.{◌≡◌, ℕ, ◌+◌, ◌≤◌, ◌<◌, inl, inr, Bool, true, false, not, List, [], ◌∷◌, ◌++◌, length, get_or, take, drop, map, Result, Ok, Err, Option, Some, None, refl, ap, sym, ◌∙◌, subst, arith, length-drop}
 use Rattle.std.specs.Prelude.{IfOk, filter, if◌then◌else◌, option_map}
 use Rattle.std.specs.Option.{option_map_or}
 use Rattle.std.proofs.lemmas.Bool.{cases_eq}
@@ -19,7 +19,6 @@ use Rattle.ds_script.specs.Faults.{is_body_line, line_fault, limit_passed, Troub
 use Rattle.ds_script.specs.Reading.{◌>>=◌, Reads, item_at, is_begun, limit_at, with_item, is_unarmed, on_line, line_read, read_from}
 use Rattle.ds_script.proofs.Readers.{fault_in}
 use Rattle.ds_script.proofs.Fronts.{words_of-none}
-use Rattle.ds_script.proofs.LookupLaws.{AreNames}
 use Rattle.ds_script.proofs.ItemLaws.{SaysItem, item_fault, item_means, item_tells}
 use Rattle.ds_script.proofs.ItemEffects.{wants_call, unarmed_same}
 use Rattle.ds_script.proofs.StateLaws.{IsState, state_more, limit_same}

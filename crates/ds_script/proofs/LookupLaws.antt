@@ -1,6 +1,6 @@
 -- What is owed by the fields whose words are looked up, and by keywords.
-use Rattle.std.proofs.Common.{◌≡◌, ◌≢◌, ℕ, zero, suc, ◌+◌, ◌≤◌, ◌<◌, ltb, Bool, true, false, not, cond, ◌&&◌, ◌||◌, List, [], ◌∷◌, length, get_or, map, Result, Ok, Err, Option, Some, None, refl, ap, sym, ◌∙◌, subst, arith}
-use Rattle.std.specs.Prelude.{codes, if◌then◌else◌, IfOk, slice_get, position, find, is_some, nat_lt}
+use Rattle.std.proofs.Common.{◌≡◌, ℕ, ◌<◌, Bool, true, false, cond, ◌||◌, List, [], ◌∷◌, length, get_or, map, Ok, Err, Option, Some, None, refl, ap, sym, ◌∙◌, arith}
+use Rattle.std.specs.Prelude.{if◌then◌else◌, IfOk, position, find, is_some, nat_lt}
 use Rattle.std.specs.List.{list_any, position_or_len}
 use Rattle.std.specs.Option.{option_map_or}
 use Rattle.std.specs.Str.{bytes_eq}
@@ -18,7 +18,7 @@ use Rattle.ds_script.specs.declared.faults.LineFault.TheVariants as faults
 use Rattle.ds_script.specs.Faults.{Class, Shape, Keyword, KnownHost, PointName, Id, Then, suits, fault_of, is_among, point_words}
 use Rattle.ds_script.specs.Reading.{◌>>=◌, Reads, Reader, word_at, host_named, host_at, all_points, point_named, point_at, id_at, keyword_at}
 use Rattle.ds_script.proofs.Readers.{by_word, before, fault_in, IsPick, IsField, IsLine, Behind, then_line, line_same}
-use Rattle.ds_script.proofs.WordLaws.{IsLabel, label_means, is_word-label, bytes_eq-same, bytes_eq-means, bytes_eq-other}
+use Rattle.ds_script.proofs.WordLaws.{label_means, is_word-label, bytes_eq-same, bytes_eq-means, bytes_eq-other}
 use Rattle.ds_script.proofs.FieldLaws.{picked}
 
 -- A pick by what is found.

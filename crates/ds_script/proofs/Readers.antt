@@ -1,11 +1,11 @@
 -- What is owed by a reader of words: what it reads is what the words mean, words that mean something are read as it, and the
 -- fault that it tells is that of the table.
-use Rattle.std.proofs.Common.{◌≡◌, ℕ, Bool, true, false, not, List, [], ◌∷◌, Result, Ok, Err, Option, Some, None, refl, ap, sym, ◌∙◌, subst}
+use Rattle.std.proofs.Common.{◌≡◌, ℕ, Bool, true, false, not, List, [], ◌∷◌, Ok, Err, Option, Some, None, refl, ap, sym, ◌∙◌, subst}
 use Rattle.std.specs.Prelude.{if◌then◌else◌, IfOk}
 use Rattle.ds_tree.specs.Lines.{Words, is_word}
 use Rattle.ds_script.specs.declared.faults.LineFault.{LineFault}
 use Rattle.ds_script.specs.declared.faults.LineFault.TheVariants as faults
-use Rattle.ds_script.specs.Faults.{Class, Shape, End, Then, Maybe, suits, fault_of, first_fault}
+use Rattle.ds_script.specs.Faults.{Class, Shape, End, Then, suits, fault_of, first_fault}
 use Rattle.ds_script.specs.Reading.{◌>>=◌, Reads, Reader, word_at, end_at}
 
 -- the fault that was told

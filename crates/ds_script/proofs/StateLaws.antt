@@ -1,5 +1,5 @@
 -- The scenario of the lines so far, as the table of faults sees those lines.
-use Rattle.std.proofs.Common.{◌≡◌, ℕ, zero, suc, ◌+◌, ◌≤◌, ◌<◌, ◌⊎◌, inl, inr, Bool, true, false, not, cond, ◌&&◌, ◌||◌, List, [], ◌∷◌, ◌++◌, length, get_or, map, Option, Some, None, refl, ap, sym, ◌∙◌, subst, arith}
+use Rattle.std.proofs.Common.{◌≡◌, ℕ, zero, suc, ◌+◌, ◌<◌, ◌⊎◌, inl, inr, Bool, true, false, cond, ◌&&◌, ◌||◌, List, [], ◌∷◌, ◌++◌, length, get_or, map, Some, None, refl, ap, sym, ◌∙◌, subst, arith}
 use Rattle.std.specs.Prelude.{count_by, sum_by, filter, slice_get, nat_lt, nat_le, if◌then◌else◌}
 use Rattle.std.specs.List.{list_any}
 use Rattle.std.specs.Str.{bytes_eq}
@@ -14,8 +14,7 @@ use Rattle.ds_tree.specs.declared.scenarios.Directive.{Directive}
 use Rattle.ds_tree.specs.declared.scenarios.HostPlan.{HostPlan}
 use Rattle.ds_tree.specs.declared.scenarios.Scenario.{Scenario}
 use Rattle.ds_tree.specs.Lines.{Words}
-use Rattle.ds_tree.specs.Grammar.{most_hosts, most_directives, most_steps, IsHostName, IsNameOf, names_of, Item, Volume, Host, Does, Step}
-use Rattle.ds_script.specs.declared.faults.What.{What}
+use Rattle.ds_tree.specs.Grammar.{most_hosts, most_directives, most_steps, IsHostName, names_of, Item, Volume, Host, Does, Step}
 use Rattle.ds_script.specs.declared.faults.What.TheVariants as whats
 use Rattle.ds_script.specs.Faults.{is_among, is_host_line, is_step_line, is_directive_line, is_body_line, word_at, names_in, turns_of, limit_passed}
 use Rattle.ds_script.specs.Reading.{count_of_directives, count_of_turns, is_begun, limit_at, with_directive, with_item}
@@ -35,7 +34,7 @@ pub record IsState (s : Scenario) (rest : List Words) : Type 0 where
 
 -- One directive more.
 
-names-with_directive : (plans : List HostPlan) (host : ℕ) (d : Directive) → names_of (with_directive plans host d) ≡ names_of plans
+pub names-with_directive : (plans : List HostPlan) (host : ℕ) (d : Directive) → names_of (with_directive plans host d) ≡ names_of plans
 names-with_directive [] host d = refl
 names-with_directive (plan ∷ plans) zero d = refl
 names-with_directive (plan ∷ plans) (suc host) d = ap (λ (ws : Words). plan.name ∷ ws) (names-with_directive plans host d)

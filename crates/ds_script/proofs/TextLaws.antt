@@ -17,15 +17,15 @@ use Rattle.ds_script.specs.declared.faults.ScriptFault.{ScriptFault}
 use Rattle.ds_script.specs.declared.faults.ScriptFault.TheVariants.{BadLine, TooLarge, Stuck, NoMemory}
 use Rattle.ds_script.specs.declared.faults.What.{What}
 use Rattle.ds_script.specs.declared.faults.What.TheVariants as whats
-use Rattle.ds_script.specs.Faults.{most_sectors, line_fault, limit_passed, geometry_of, Trouble, Bad, Large, in_scenario, trouble_at, IsFirst, LacksVolume, IsFirstBad, PassesLimit}
+use Rattle.ds_script.specs.Faults.{most_sectors, line_fault, limit_passed, geometry_of, Trouble, Bad, Large, in_scenario, trouble_at, IsFirst, IsFirstBad, PassesLimit}
 use Rattle.ds_script.specs.Reading.{◌>>=◌, Reads, on_line, volume_line_at, volume_read, first_read, scenario_of, read_from, text_read}
 use Rattle.ds_script.proofs.Readers.{fault_in}
 use Rattle.ds_script.proofs.Fronts.{words_of-none}
 use Rattle.ds_script.proofs.WordLaws.{number_of-decimal}
 use Rattle.ds_script.proofs.VolumeLaws.{SaysVolume, volume_line_means, volume_line_tells, geom_again, geom_of, sizes_of}
 use Rattle.ds_script.proofs.ItemEffects.{wants_call}
-use Rattle.ds_script.proofs.StateLaws.{IsState, state_first}
-use Rattle.ds_script.proofs.LineOrder.{refusal, judged, IsRefused, Continues, IsFirstFrom, AllStand, ReadGives, read_from_gives, passed_stands, past_stands, IsAt, line_at, trouble_here, kept-append, kept_passed, kept_line}
+use Rattle.ds_script.proofs.StateLaws.{state_first}
+use Rattle.ds_script.proofs.LineOrder.{refusal, judged, IsRefused, IsFirstFrom, AllStand, ReadGives, read_from_gives, passed_stands, IsAt, line_at, trouble_here, kept-append, kept_passed, kept_line}
 
 -- The volume line.
 

@@ -1,5 +1,5 @@
 -- What a volume line owes.
-use Rattle.std.proofs.Common.{◌≡◌, ℕ, suc, ◌+◌, ◌^◌, ◌≤◌, ◌<◌, Bool, true, false, not, List, [], ◌∷◌, ◌++◌, length, Result, Ok, Err, Option, Some, None, refl, ap, sym, ◌∙◌, subst, arith}
+use Rattle.std.proofs.Common.{◌≡◌, ℕ, Bool, true, false, List, [], ◌∷◌, length, Ok, Err, Some, refl, ap, sym, ◌∙◌, subst, arith}
 use Rattle.std.specs.Prelude.{IfOk, codes, decimal, slice_index, if◌then◌else◌}
 use Rattle.std.specs.Str.{bytes_eq}
 use Rattle.ds_base.specs.declared.geometry.Geom.{Geom}
@@ -7,15 +7,14 @@ use Rattle.ds_base.specs.declared.geometry.GeomField.{GeomField}
 use Rattle.ds_base.specs.declared.geometry.GeomField.TheVariants as fields
 use Rattle.ds_base.specs.declared.geometry.Kind.{Kind}
 use Rattle.ds_base.specs.declared.geometry.Kind.TheVariants.{Fd, Sb, Pb, Fb}
-use Rattle.ds_base.specs.Geometry.{IsGeom, InRange, most_of, clusters_of, per_cluster}
+use Rattle.ds_base.specs.Geometry.{IsGeom, most_of, clusters_of, per_cluster}
 use Rattle.ds_tree.specs.Lines.{Words, is_word, is_comment}
-use Rattle.ds_tree.specs.Grammar.{HasFourKinds, IsIdWord, Item, Volume, SpellsItem, geometry_part}
-use Rattle.ds_script.specs.declared.faults.LineFault.{LineFault}
+use Rattle.ds_tree.specs.Grammar.{HasFourKinds, IsIdWord, Volume, SpellsItem, geometry_part}
 use Rattle.ds_script.specs.declared.faults.LineFault.TheVariants as faults
-use Rattle.ds_script.specs.Faults.{Class, Shape, End, Then, Keyword, Size, Id, kind_shape, volume_shape, first_fault, line_fault}
-use Rattle.ds_script.specs.Reading.{◌>>=◌, Reads, Reader, word_at, keyword_at, size_at, named_size_at, kind_at, geometry_at, id_at, volume_at, volume_line_at, end_at}
+use Rattle.ds_script.specs.Faults.{Shape, End, Then, Keyword, Size, Id, kind_shape, volume_shape, first_fault, line_fault}
+use Rattle.ds_script.specs.Reading.{◌>>=◌, Reads, word_at, keyword_at, size_at, named_size_at, kind_at, geometry_at, id_at, volume_at, volume_line_at}
 use Rattle.ds_script.proofs.Readers.{fault_in, first_word_means, first_word_tells, IsLine, Behind, IfOk-like, then_line, line_like, line_same}
-use Rattle.ds_script.proofs.WordLaws.{IsNumberWord, bytes_eq-means}
+use Rattle.ds_script.proofs.WordLaws.{bytes_eq-means}
 use Rattle.ds_script.proofs.FieldLaws.{size_field}
 use Rattle.ds_script.proofs.LookupLaws.{id_field}
 use Rattle.ds_script.proofs.Written.{Written, written_end, written_then, written_keyword, twice}

@@ -1,5 +1,5 @@
 -- A scenario that grows by lines that stand keeps within its limits, and its hosts keep apart.
-use Rattle.std.proofs.Common.{◌≡◌, ℕ, ◌+◌, ◌≤◌, ◌<◌, Bool, true, false, List, [], ◌∷◌, length, Option, Some, None, refl, ap, sym, ◌∙◌, subst, arith}
+use Rattle.std.proofs.Common.{◌≡◌, ℕ, ◌+◌, ◌≤◌, ◌<◌, Bool, true, false, List, [], ◌∷◌, length, Some, None, refl, arith}
 use Rattle.std.specs.Prelude.{nat_le, nat_lt, if◌then◌else◌}
 use Rattle.std.proofs.lemmas.Bool.{leb-false, ltb-false}
 use Rattle.ds_tree.specs.declared.scenarios.Scenario.{Scenario}
@@ -10,8 +10,8 @@ use Rattle.ds_script.specs.declared.faults.What.TheVariants as whats
 use Rattle.ds_script.specs.Reading.{count_of_directives, count_of_turns, is_begun, limit_at, with_item}
 use Rattle.ds_script.proofs.LookupLaws.{AreNames}
 use Rattle.ds_script.proofs.ItemLaws.{SaysItem}
-use Rattle.ds_script.proofs.StateLaws.{HasHost, has_host, hosts_more, directives_more, turns_more, are_more}
-use Rattle.ds_script.proofs.LineOrder.{IsTaken, Continues, done, passed, more}
+use Rattle.ds_script.proofs.StateLaws.{has_host, hosts_more, directives_more, turns_more, are_more}
+use Rattle.ds_script.proofs.LineOrder.{Continues, done, passed, more}
 
 -- within the limits, and no two hosts have the same name
 pub record IsWithinLimits (s : Scenario) : Type 0 where

@@ -1,14 +1,14 @@
 -- The words that are numbers, labels and variables.
-use Rattle.std.proofs.Common.{◌≡◌, ◌≢◌, ℕ, ◌+◌, ◌^◌, ◌≤◌, ◌<◌, ◌⊎◌, inl, inr, Bool, true, false, not, ◌&&◌, List, [], ◌∷◌, length, get_or, refl, ap, sym, ◌∙◌, subst, arith, rules}
+use Rattle.std.proofs.Common.{◌≡◌, ◌≢◌, ℕ, ◌^◌, ◌≤◌, ◌<◌, ◌⊎◌, inl, inr, Bool, true, false, not, ◌&&◌, List, [], ◌∷◌, length, get_or, refl, ap, sym, ◌∙◌, arith, rules}
 use Rattle.std.specs.Prelude.{decimal, codes, nat_le}
 use Rattle.std.specs.List.{list_all}
 use Rattle.std.specs.Str.{bytes_eq}
-use Rattle.std.proofs.lemmas.Bool.{and_parts, and_from, false≢true, leb-true, le-leb, false_from_ne_true, not_from_false, not-true, cases_eq}
+use Rattle.std.proofs.lemmas.Bool.{and_parts, and_from, false≢true, le-leb, false_from_ne_true, not_from_false, not-true, cases_eq}
 use Rattle.std.proofs.lemmas.Bool.Decides.{nat_tests}
 use Rattle.std.proofs.lemmas.Fmt.{digits_decimal, digits_value-decimal, decimal-digits_value, decimal_nonempty, first_decimal, length-decimal-le, decimal_digit}
 use Rattle.std.proofs.lemmas.Slice.Eq.{bytes_eq-Decides}
 use Rattle.std.proofs.lemmas.Str.Parse.{IsNumeralModel, numerals_by_fold}
-use Rattle.ds_tree.specs.Lines.{is_visible, is_run, is_word, is_digit, is_number, value_from, number_of, is_number_in}
+use Rattle.ds_tree.specs.Lines.{is_visible, is_word, is_digit, is_number, value_from, number_of, is_number_in}
 use Rattle.ds_tree.specs.Grammar.{is_label}
 use Rattle.ds_tree.specs.Variables.{IsVariable, is_lower_or_digit}
 use Rattle.ds_script.specs.Faults.{is_variable}

@@ -1,11 +1,10 @@
 -- Lines that are written in one way: what they say is made of values, each of which has one word.
-use Rattle.std.proofs.Common.{◌≡◌, ℕ, List, [], ◌∷◌, length, get_or, Result, Ok, Err, Option, Some, None, refl, ap, sym, ◌∙◌, subst, true}
-use Rattle.std.specs.Prelude.{IfOk, IfSome, codes}
+use Rattle.std.proofs.Common.{◌≡◌, ℕ, List, [], ◌∷◌, Ok, Err, Option, Some, None, refl, ap, sym, ◌∙◌, subst, true}
+use Rattle.std.specs.Prelude.{IfOk, IfSome}
 use Rattle.ds_tree.specs.Lines.{Words, is_word}
-use Rattle.ds_script.specs.declared.faults.LineFault.{LineFault}
 use Rattle.ds_script.specs.Faults.{Class, Shape, End, Then, Maybe, Keyword, first_fault}
 use Rattle.ds_script.specs.Reading.{◌>>=◌, Reads, Reader, keyword_at, end_at}
-use Rattle.ds_script.proofs.Readers.{fault_in, IsField, IsLine, Behind, AtEnd, IfOk-like, then_line, end_line, line_like, line_same}
+use Rattle.ds_script.proofs.Readers.{fault_in, IsField, IsLine, Behind, AtEnd, IfOk-like, then_line, end_line, line_like}
 use Rattle.ds_script.proofs.LookupLaws.{BehindKeyword, keyword_line}
 
 -- words that are those of a value which fits, and what is made of it
