@@ -37,9 +37,9 @@ each_armed s t suffix by_lines state none are host plan there =
     let g : Grows s suffix t = grows s t suffix by_lines in
     let items : List Item = map Host g.news ++ g.body in
     let stands : AllByRecursion (Stands (length (names_of t.hosts))) items =
-      all_stand _ g.news g.body (subst (λ n. AllByRecursion (MayBe n) g.body) (sym (length_names t.hosts)) g.stands) in
+    all_stand _ g.news g.body (subst (λ n. AllByRecursion (MayBe n) g.body) (sym (length_names t.hosts)) g.stands) in
     let all = lines_armed (names_of t.hosts) are [] state by_lines items g.lines stands in
     let own : list_of host items ≡ plan.list =
-      past_hosts host g.news g.body
-      ∙ (ap (λ (plans : List HostPlan). list_at plans host ++ list_of host g.body) (sym none) ∙ (sym (g.lists host) ∙ ap directives_of there)) in
+    past_hosts host g.news g.body
+    ∙ (ap (λ (plans : List HostPlan). list_at plans host ++ list_of host g.body) (sym none) ∙ (sym (g.lists host) ∙ ap directives_of there)) in
     subst AreArmed own (lists_armed host items all)

@@ -5,6 +5,7 @@ ghost use Rattle.std.specs.Prelude.{◌≡◌, ◌+◌, ◌≤◌, IfOk, length,
 ghost use Rattle.ds_layout.specs.Places.{total_of};
 ghost use Rattle.ds_tree.specs.Grammar.{most_bytes};
 ghost use Rattle.ds_tree.specs.Lines.{lines_of, words_of};
+ghost use Rattle.ds_script.specs.Answers.{IsAnswer, OrNoMemory};
 ghost use Rattle.ds_script.specs.Passing.{AreNumbered};
 ghost use Rattle.ds_script.specs.Reading.{first_read, line_read, none_read, only_volume_read, read_from, scenario_of, text_read, volume_read, volume_text_read, within_bytes};
 ghost use Rattle.ds_script.specs.Results.{Gives, Tells, TellsPassing};
@@ -24,6 +25,13 @@ use uuid::Uuid;
 
 /// The scenario that a text is.
 pub fn read(alloc: Global, bytes: &[u8]) -> Result<Scenario, ScriptFault>
+    ensures { OrNoMemory result (IsAnswer bytes.now result) }
+{
+    read_passing(alloc, bytes)
+}
+
+/// The scenario that is read of a text, where its directives can all pass.
+fn read_passing(alloc: Global, bytes: &[u8]) -> Result<Scenario, ScriptFault>
     ensures { TellsPassing result (within_bytes bytes.now (text_read bytes.now)) }
 {
     if bytes.len() > MOST_BYTES {
