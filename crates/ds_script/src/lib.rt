@@ -1,9 +1,19 @@
 //! The language of scenarios: how their texts are read, and whether their directives can all pass.
 #![tactic(auto)]
 
+mod arming;
+mod directives;
+mod drafts;
 mod faults;
+mod fields;
+mod items;
+mod limits;
 mod lines;
+mod numbers;
 mod passing;
+mod reading;
+#[cfg(test)]
+mod reading_tests;
 #[cfg(test)]
 mod passing_tests;
 
