@@ -20,7 +20,6 @@ use Rattle.ds_script.proofs.Growth.{at_same, at_other, at_new, none_more, slice_
 
 -- The runs of a line.
 
-
 run_first : (w : List ℕ) (ws : Words) → is_run w ≡ true → filter is_run (w ∷ ws) ≡ w ∷ filter is_run ws
 run_first w ws is = ap (λ (b : Bool). cond b (w ∷ filter is_run ws) (filter is_run ws)) is
 
@@ -96,7 +95,7 @@ module _ (s t : Scenario) (line : List ℕ) (behind : List (List ℕ)) (host : �
   adds_host name is spells a =
       later (with_item s (Host name)) (Host name) is (at_new s.hosts name host)
       (λ w h. subst (λ (names : Words). IsNameOf names host w) (sym (names_more s (Host name)))
-        (slice_get_more (names_of s.hosts) (name ∷ []) host w h))
+      (slice_get_more (names_of s.hosts) (name ∷ []) host w h))
       (λ w h. ap (λ (ws : Words). begins_with w (filter is_run ws)) spells ∙ not_host w (are.hosts host w h))
       a
 
@@ -124,8 +123,8 @@ module _ (s t : Scenario) (line : List ℕ) (behind : List (List ℕ)) (host : �
     adds_other different =
         later (with_item s (Does other d)) (Does other d) is (at_other s.hosts host other d different) stays
         (λ w h. ap (begins_with w) word_run
-          ∙ bytes_eq-other word w (λ e. different (are.apart host other w h
-            (says.spells.2 ∙ ap (λ (v : List ℕ). Some v) e))))
+        ∙ bytes_eq-other word w (λ e. different (are.apart host other w h
+        (says.spells.2 ∙ ap (λ (v : List ℕ). Some v) e))))
         a
 
     second_is_call : word_at (filter is_run (words_of line)) 1 ≡ directive_word d
@@ -133,7 +132,7 @@ module _ (s t : Scenario) (line : List ℕ) (behind : List (List ℕ)) (host : �
         let begins = directive_begins (names_of s.hosts) says.spells.1 d says.spells.4 in
         ap (λ (ws : Words). word_at ws 1)
         (word_run ∙ ap (λ (ws : Words). word ∷ ws)
-          (ap (filter is_run) begins.1 ∙ run_first (directive_word d) begins.0 (directive_run d)))
+        (ap (filter is_run) begins.1 ∙ run_first (directive_word d) begins.0 (directive_run d)))
 
     called : (w : List ℕ) → IsNameOf (names_of s.hosts) other w → is_armed w (line ∷ behind) ≡ true → is_call d ≡ true
     called w h found =
@@ -165,7 +164,7 @@ module _ (s t : Scenario) (line : List ℕ) (behind : List (List ℕ)) (host : �
         }
 
     adds_does : Adds s (line ∷ behind) t host
-    adds_does = elim (cases_eq host other) [ | inl own ↦ adds_own own | inr different ↦ adds_other different ]
+    adds_does = elim (cases_eq host other) [ inl own ↦ adds_own own | inr different ↦ adds_other different ]
 
   adds_item : (item : Item) → is_comment (words_of line) ≡ false → IsTaken s (words_of line) behind item
       → Adds (with_item s item) behind t host → Adds s (line ∷ behind) t host

@@ -1,6 +1,6 @@
 -- Whether a host's next line is a call, and whether its next directive is one.
-use Rattle.std.proofs.Common.{◌≡◌, ℕ, Bool, true, false, not, length, ◌&&◌, List, [], ◌∷◌, ◌++◌, map, Some, refl, ap, sym, subst, ◌∙◌}
-use Rattle.std.specs.Prelude.{IsTrue, filter, find, nat_eq, nat_le, codes, decimal, if◌then◌else◌}
+use Rattle.std.proofs.Common.{◌≡◌, ℕ, Bool, true, false, not, length, ◌&&◌, List, [], ◌∷◌, ◌++◌, map, refl, ap, sym, subst, ◌∙◌}
+use Rattle.std.specs.Prelude.{IsTrue, filter, find, nat_eq, nat_le, codes, decimal}
 use Rattle.std.specs.List.{AllByRecursion, AllZip}
 use Rattle.std.specs.Option.{option_map_or}
 use Rattle.std.specs.Str.{bytes_eq}
@@ -13,7 +13,7 @@ use Rattle.ds_tree.specs.declared.scenarios.Directive.{Directive}
 use Rattle.ds_tree.specs.declared.scenarios.Directive.TheVariants as directives
 use Rattle.ds_tree.specs.declared.scenarios.Scenario.{Scenario}
 use Rattle.ds_tree.specs.declared.variables.Spoken.{Spoken}
-use Rattle.ds_tree.specs.Lines.{Words, words_of, kept, is_run, is_word}
+use Rattle.ds_tree.specs.Lines.{Words, words_of, kept, is_run}
 use Rattle.ds_tree.specs.Grammar.{is_call, is_arming, is_reserved, Fits, names_of, IsNameOf, SpellsItem, Item, Volume, Host, Does, Step}
 use Rattle.ds_script.specs.Faults.{begins_with, call_rows, is_first_of, word_at, is_armed}
 use Rattle.ds_script.specs.Reading.{is_begun, is_unarmed}

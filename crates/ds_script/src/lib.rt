@@ -11,11 +11,12 @@ mod limits;
 mod lines;
 mod numbers;
 mod passing;
+#[cfg(test)]
+mod passing_tests;
 mod reading;
 #[cfg(test)]
 mod reading_tests;
-#[cfg(test)]
-mod passing_tests;
 
 pub use faults::{LineFault, ScriptFault, What};
 pub use passing::{Pass, plain_pass};
+pub use reading::read;
