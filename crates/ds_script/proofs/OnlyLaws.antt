@@ -1,13 +1,12 @@
 -- A fault of the lines of a text is the one that is told.
-use Rattle.std.proofs.Common.{◌≡◌, ℕ, ◌≤◌, ◌<◌, ◌⊎◌, inl, inr, Bool, true, false, List, length, Result, Ok, Err, refl, ap, sym, ◌∙◌, subst, arith}
-use Rattle.std.specs.Prelude.{if◌then◌else◌, nat_lt}
+use Rattle.std.proofs.Common.{◌≡◌, ℕ, ◌≤◌, inl, inr, Bool, List, length, Result, Ok, Err, ap, sym, ◌∙◌, subst}
+use Rattle.std.specs.Prelude.{if◌then◌else◌}
 use Rattle.std.proofs.lemmas.Bool.{lt-ltb, le-ltb}
 use Rattle.ds_tree.specs.declared.scenarios.Scenario.{Scenario}
 use Rattle.ds_tree.specs.Lines.{lines_of}
 use Rattle.ds_tree.specs.Grammar.{most_bytes}
 use Rattle.ds_script.specs.declared.faults.ScriptFault.{ScriptFault}
 use Rattle.ds_script.specs.declared.faults.ScriptFault.TheVariants.{BadLine, TooLarge, Stuck, NoMemory}
-use Rattle.ds_script.specs.declared.faults.What.{What}
 use Rattle.ds_script.specs.declared.faults.What.TheVariants as whats
 use Rattle.ds_tree.specs.PlainPass.{PassesAll, IsStuck}
 use Rattle.ds_tree.proofs.PlainPasses.{one_answer, same_stuck}
