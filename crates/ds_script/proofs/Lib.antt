@@ -25,5 +25,6 @@ mod Growth
 mod Within
 mod ScenarioLaws
 mod ArmedCalls
+mod Continuing
 mod AnswerLaws
 mod OnlyLaws
