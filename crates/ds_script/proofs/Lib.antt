@@ -26,5 +26,6 @@ mod Within
 mod ScenarioLaws
 mod ArmedCalls
 mod Continuing
+mod AgainLaws
 mod AnswerLaws
 mod OnlyLaws
