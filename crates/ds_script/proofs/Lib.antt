@@ -33,5 +33,7 @@ mod Growth
 mod Within
 mod ScenarioLaws
 mod ArmedCalls
+mod Continuing
+mod AgainLaws
 mod AnswerLaws
 mod OnlyLaws
