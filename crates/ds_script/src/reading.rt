@@ -1,10 +1,12 @@
 //! Reading texts of scenarios and of volumes.
 #![tactic(auto, using(crate::proofs::LineSteps::line_steps))]
 
-ghost use Rattle.std.specs.Prelude.{◌≡◌, ◌+◌, ◌≤◌, IfOk, length, Err};
+ghost use Rattle.std.specs.Prelude.{◌≡◌, ◌+◌, ◌≤◌, IfOk, length, Err, Result};
 ghost use Rattle.ds_layout.specs.Places.{total_of};
 ghost use Rattle.ds_tree.specs.Grammar.{most_bytes};
 ghost use Rattle.ds_tree.specs.Lines.{lines_of, words_of};
+ghost use Rattle.ds_tree.specs.declared.scenarios.Scenario.{Scenario};
+ghost use Rattle.ds_script.specs.declared.faults.ScriptFault.{ScriptFault};
 ghost use Rattle.ds_script.specs.Answers.{IsAnswer, OrNoMemory};
 ghost use Rattle.ds_script.specs.Passing.{AreNumbered};
 ghost use Rattle.ds_script.specs.Reading.{first_read, line_read, none_read, only_volume_read, read_from, scenario_of, text_read, volume_read, volume_text_read, within_bytes};
@@ -23,9 +25,10 @@ use ds_tree::Scenario;
 use std::alloc::Global;
 use uuid::Uuid;
 
-/// The scenario that a text is.
+/// The scenario that a text is, or what is wrong with it.
 pub fn read(alloc: Global, bytes: &[u8]) -> Result<Scenario, ScriptFault>
-    ensures { OrNoMemory result (IsAnswer bytes.now result) }
+    ensures answer { OrNoMemory result (IsAnswer bytes.now result) }
+    ensures only { (answer : Result Scenario ScriptFault) → IsAnswer bytes.now answer → OrNoMemory result (result ≡ answer) }
 {
     read_passing(alloc, bytes)
 }
