@@ -54,7 +54,7 @@ fn first(numbers: &[u32], count: usize) -> &[u32]
 }
 
 /// The sub-blocks that a directory lists; none of anything else.
-pub(crate) fn subs_of(body: &Option<Body>) -> &[u32]
+pub fn subs_of(body: &Option<Body>) -> &[u32]
     ensures { result.now ≡ subs_of body.now }
 {
     let Some(body) = body else {
@@ -67,7 +67,7 @@ pub(crate) fn subs_of(body: &Option<Body>) -> &[u32]
 }
 
 /// The pointer blocks that a file lists; none of anything else.
-pub(crate) fn ptrs_of(body: &Option<Body>) -> &[u32]
+pub fn ptrs_of(body: &Option<Body>) -> &[u32]
     ensures { result.now ≡ ptrs_of body.now }
 {
     let Some(body) = body else {
@@ -89,11 +89,7 @@ fn pointer_blocks(count: u32) -> usize
 }
 
 /// The addresses in pointer blocks, one block after another.
-pub(crate) fn pointed_by(
-    alloc: Global,
-    parts: &PartsInMemory,
-    ptrs: &[u32],
-) -> Result<Vec<u32>, NoMemory>
+pub fn pointed_by(alloc: Global, parts: &PartsInMemory, ptrs: &[u32]) -> Result<Vec<u32>, NoMemory>
     ensures { IfOk result (λ v. v.items ≡ flat_map (λ n. addresses_in (part_at parts.now.ptrs n)) ptrs.now) }
 {
     let mut addresses = Vec::new(alloc);
@@ -115,7 +111,7 @@ fn addresses_in(parts: &PartsInMemory, number: u32) -> &[u32]
 }
 
 /// The blocks of a file; none of anything else.
-pub(crate) fn blocks_of(
+pub fn blocks_of(
     alloc: Global,
     parts: &PartsInMemory,
     body: &Option<Body>,

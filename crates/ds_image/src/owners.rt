@@ -33,7 +33,7 @@ pub(crate) fn owns(
 }
 
 /// The bits of bitmaps, one bitmap after another.
-pub(crate) fn bits_in(alloc: Global, maps: &[Option<Bits>]) -> Result<Vec<bool>, NoMemory>
+pub fn bits_in(alloc: Global, maps: &[Option<Bits>]) -> Result<Vec<bool>, NoMemory>
     ensures { IfOk result (λ v. v.items ≡ bits_in maps.now) }
 {
     let mut bits = Vec::new(alloc);

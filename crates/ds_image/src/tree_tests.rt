@@ -62,10 +62,10 @@ fn formatted(alloc: Global, geom: &Geom) -> Result<Vec<Sector>, Fail> {
 
 /// The tree for which a volume of these sectors stands.
 fn tree_on(alloc: Global, geom: &Geom, sectors: Vec<Sector>) -> Result<Option<Tree>, Fail> {
-    let lun = MemLun::from_list(sectors);
-    if geom.check().is_err() || lun.len() != total(geom) {
+    if geom.check().is_err() || sectors.len() != total(geom) as usize {
         return Ok(None);
     }
+    let lun = MemLun::from_list(sectors);
     let image = overlay(alloc, geom, &lun)?;
     Ok(read_tree(alloc, &image)?)
 }
