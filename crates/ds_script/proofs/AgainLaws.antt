@@ -1,9 +1,8 @@
 -- A text that spells a scenario is read as it.
-use Rattle.std.proofs.Common.{◌≡◌, ℕ, zero, suc, ◌+◌, ◌≤◌, Bool, true, false, not, cond, List, [], ◌∷◌, ◌++◌, length, map, Option, Some, None, Result, Ok, Err, refl, ap, sym, ◌∙◌, subst}
+use Rattle.std.proofs.Common.{◌≡◌, ℕ, zero, suc, ◌+◌, ◌≤◌, Bool, true, false, not, cond, List, [], ◌∷◌, ◌++◌, length, map, Option, Some, None, Ok, Err, refl, ap, sym, ◌∙◌, subst}
 use Rattle.std.specs.Prelude.{slice_get, nat_eq, if◌then◌else◌}
 use Rattle.std.specs.List.{AllByRecursion, AllZip, cons_option}
 use Rattle.std.proofs.lemmas.Bool.{eq-eqb, eqb-true, le-ltb, false≢true}
-use Rattle.std.proofs.lemmas.Option.{slice_get_within}
 use Rattle.ds_base.specs.declared.geometry.Geom.{Geom}
 use Rattle.ds_layout.specs.Places.{total_of}
 use Rattle.ds_tree.specs.declared.scenarios.Directive.{Directive}
@@ -12,17 +11,16 @@ use Rattle.ds_tree.specs.declared.scenarios.Scenario.{Scenario}
 use Rattle.ds_tree.specs.Lines.{Words, lines_of, words_of, is_comment, kept}
 use Rattle.ds_tree.specs.Grammar.{most_bytes, names_of, Fits, IsStep, IsPlan, IsHostName, IsNameOf, AreArmed, Item, Volume, Host, Does, Step, SpellsItem, IsOfBody, IsScenario}
 use Rattle.ds_tree.specs.PlainPass.{list_at, directives_of}
-use Rattle.ds_script.specs.declared.faults.ScriptFault.{ScriptFault}
 use Rattle.ds_script.specs.declared.faults.ScriptFault.TheVariants.{TooLarge}
 use Rattle.ds_script.specs.declared.faults.What.TheVariants as whats
 use Rattle.ds_script.specs.Faults.{most_sectors}
 use Rattle.ds_script.specs.Answers.{IsInOrder}
-use Rattle.ds_script.specs.Reading.{◌>>=◌, is_begun, with_item, line_read, read_from, volume_read, first_read, scenario_of, text_read, within_bytes}
+use Rattle.ds_script.specs.Reading.{is_begun, with_item, line_read, read_from, volume_read, first_read, scenario_of, text_read, within_bytes}
 use Rattle.ds_script.proofs.LookupLaws.{AreNames}
 use Rattle.ds_script.proofs.ItemLaws.{item_again}
 use Rattle.ds_script.proofs.VolumeLaws.{SaysVolume, volume_line_again}
 use Rattle.ds_script.proofs.LineSteps.{first_read-passed, first_read-ok, read_from-none, read_from-passed, read_from-ok}
-use Rattle.ds_script.proofs.StateLaws.{are_more, length_names}
+use Rattle.ds_script.proofs.StateLaws.{are_more}
 use Rattle.ds_script.proofs.LineOrder.{IsTaken, Continues, done, passed, more}
 use Rattle.ds_script.proofs.Growth.{MayBe, Grows, directives_in, steps_in}
 use Rattle.ds_script.proofs.Continuing.{IsEnd, continues}
@@ -133,7 +131,7 @@ none_past names host none (item ∷ body) [] h = absurd h
 none_past names host none (Volume id g ∷ body) (line ∷ lines) h = none_past names host none body lines h.1
 none_past names host none (Host name ∷ body) (line ∷ lines) h = none_past names host none body lines h.1
 none_past names host none (Step other count ∷ body) (line ∷ lines) h = none_past names host none body lines h.1
-none_past names host none (Does other d ∷ body) (line ∷ lines) h = 
+none_past names host none (Does other d ∷ body) (line ∷ lines) h =
     by_host (none_past names host none body lines h.1) (nat_eq host other) refl
   where
     by_host : directives_in host body ≡ [] → (b : Bool) → nat_eq host other ≡ b
@@ -211,7 +209,7 @@ module _ (bytes : List ℕ) (s : Scenario) (h : IsInOrder bytes s) where
   stands =
       may_be (length s.hosts) body h.spells.of_body
       (λ host. subst (λ (ds : List Directive). AllByRecursion (Fits (length s.hosts)) ds) (lists host)
-        (each_list (λ ds. AllByRecursion (Fits (length s.hosts)) ds) tt (length s.hosts) (λ plan p. p.fit) s.hosts h.spells.is_scenario.plans host))
+      (each_list (λ ds. AllByRecursion (Fits (length s.hosts)) ds) tt (length s.hosts) (λ plan p. p.fit) s.hosts h.spells.is_scenario.plans host))
       (subst (λ (steps : List (ℕ × ℕ)). AllByRecursion (IsStep (length s.hosts)) steps) h.spells.steps h.spells.is_scenario.steps)
 
   growth : Grows (scenario_of volume) first.behind s

@@ -20,7 +20,6 @@ use Rattle.ds_script.proofs.Growth.{at_same, at_other, at_new, none_more, slice_
 
 -- The runs of a line.
 
-
 run_first : (w : List ℕ) (ws : Words) → is_run w ≡ true → filter is_run (w ∷ ws) ≡ w ∷ filter is_run ws
 run_first w ws is = ap (λ (b : Bool). cond b (w ∷ filter is_run ws) (filter is_run ws)) is
 
@@ -121,7 +120,7 @@ module _ (s t : Scenario) (line : List ℕ) (behind : List (List ℕ)) (host : �
   adds_host name is spells a =
       later (with_item s (Host name)) (Host name) is (at_new s.hosts name host)
       (λ w h. subst (λ (names : Words). IsNameOf names host w) (sym (names_more s (Host name)))
-        (slice_get_more (names_of s.hosts) (name ∷ []) host w h))
+      (slice_get_more (names_of s.hosts) (name ∷ []) host w h))
       (λ w h. ap (λ (ws : Words). begins_with w (filter is_run ws)) spells ∙ not_host w (are.hosts host w h))
       a
 
@@ -174,7 +173,7 @@ module _ (s t : Scenario) (line : List ℕ) (behind : List (List ℕ)) (host : �
         }
 
     adds_does : Adds s (line ∷ behind) t host
-    adds_does = elim (cases_eq host other) [ | inl own ↦ adds_own own | inr different ↦ adds_other different ]
+    adds_does = elim (cases_eq host other) [ inl own ↦ adds_own own | inr different ↦ adds_other different ]
 
   adds_item : (item : Item) → is_comment (words_of line) ≡ false → IsTaken s (words_of line) behind item
       → Adds (with_item s item) behind t host → Adds s (line ∷ behind) t host

@@ -1,7 +1,7 @@
 -- Lines by which one scenario grows to another are taken one by one, where the other is within the limits, and each of its
 -- directives about a next call has one.
-use Rattle.std.proofs.Common.{◌≡◌, ℕ, zero, suc, ◌+◌, ◌≤◌, ◌<◌, Bool, true, false, not, cond, ◌&&◌, inl, inr, List, [], ◌∷◌, ◌++◌, length, map, Option, Some, None, refl, ap, sym, ◌∙◌, subst, arith, append_assoc, append-nil, length-append}
-use Rattle.std.specs.Prelude.{slice_get, filter, nat_eq, nat_le, nat_lt, sum_by, is_some, if◌then◌else◌}
+use Rattle.std.proofs.Common.{◌≡◌, ℕ, suc, ◌+◌, ◌≤◌, Bool, true, false, not, cond, ◌&&◌, inl, inr, List, [], ◌∷◌, ◌++◌, length, map, Option, Some, None, refl, ap, sym, ◌∙◌, subst, arith, append_assoc, append-nil, length-append}
+use Rattle.std.specs.Prelude.{slice_get, filter, nat_le, nat_lt, sum_by, is_some, if◌then◌else◌}
 use Rattle.std.specs.List.{AllByRecursion, AllZip, cons_option}
 use Rattle.std.proofs.lemmas.Bool.{cases_eq, eq-eqb, ne_eqb, false≢true, lt-leb, le-ltb}
 use Rattle.std.proofs.lemmas.List.Sums.{sum_by-cons, sum_by-append}
@@ -10,7 +10,7 @@ use Rattle.ds_tree.specs.declared.scenarios.Directive.{Directive}
 use Rattle.ds_tree.specs.declared.scenarios.HostPlan.{HostPlan}
 use Rattle.ds_tree.specs.declared.scenarios.Scenario.{Scenario}
 use Rattle.ds_tree.specs.Lines.{Words, words_of, is_comment, is_run, kept}
-use Rattle.ds_tree.specs.Grammar.{most_hosts, most_directives, most_steps, names_of, IsNameOf, Fits, IsStep, AreArmed, is_call, is_arming, Item, Volume, Host, Does, Step, SpellsItem, IsOfBody}
+use Rattle.ds_tree.specs.Grammar.{most_hosts, most_directives, most_steps, names_of, IsNameOf, AreArmed, is_call, is_arming, Item, Volume, Host, Does, Step, SpellsItem, IsOfBody}
 use Rattle.ds_tree.specs.PlainPass.{list_at}
 use Rattle.ds_script.specs.declared.faults.What.{What}
 use Rattle.ds_script.specs.declared.faults.What.TheVariants as whats
@@ -18,8 +18,8 @@ use Rattle.ds_script.specs.Faults.{begins_with, is_among, is_armed}
 use Rattle.ds_script.specs.Reading.{count_of_directives, count_of_turns, host_named, is_begun, is_unarmed, limit_at, with_item}
 use Rattle.ds_script.proofs.LookupLaws.{AreNames, is_among-found, host_named-means}
 use Rattle.ds_script.proofs.ItemLaws.{SaysItem}
-use Rattle.ds_script.proofs.StateLaws.{list_length, HasHost, has_host, hosts_more, directives_more, turns_more, begun_more, names_more, names-with_directive, length_names}
-use Rattle.ds_script.proofs.LineOrder.{IsTaken, Continues, done, passed, more}
+use Rattle.ds_script.proofs.StateLaws.{list_length, has_host, hosts_more, directives_more, turns_more, begun_more, names_more, names-with_directive, length_names}
+use Rattle.ds_script.proofs.LineOrder.{Continues, done, passed, more}
 use Rattle.ds_script.proofs.Growth.{MayBe, Grows, directives_in, steps_in, does_more, at_new, slice_get_more}
 use Rattle.ds_script.proofs.Within.{IsWithinLimits}
 use Rattle.ds_script.proofs.ArmedCalls.{NextIsCall, armed_here, armed_later, not_step, second_is_call, begins_own, begins_other}
@@ -71,8 +71,13 @@ lists_longer [] others each = omega arith
 lists_longer (plan ∷ plans) [] each =
     omega (arith, sum_by-cons list_length plan plans, each 0, lists_longer plans [] (λ host. each (suc host)))
 lists_longer (plan ∷ plans) (other ∷ others) each =
-    omega (arith, sum_by-cons list_length plan plans, sum_by-cons list_length other others, each 0,
-      lists_longer plans others (λ host. each (suc host)))
+    omega (
+      arith,
+      sum_by-cons list_length plan plans,
+      sum_by-cons list_length other others,
+      each 0,
+      lists_longer plans others (λ host. each (suc host)),
+    )
 
 abbrev turns : ℕ × ℕ → ℕ
 turns step = step.1
@@ -103,7 +108,7 @@ within_limit s t (Host name) ws says less within =
 within_limit s t (Does host d) ws says less within =
     limit_not whats.Directives (nat_le most_directives (count_of_directives s))
     (lt-leb most_directives (count_of_directives s)
-      (omega (arith, directives_more s (Does host d) (has_host s (is_begun s) ws (Does host d) says), less.directives, within.few_directives)))
+    (omega (arith, directives_more s (Does host d) (has_host s (is_begun s) ws (Does host d) says), less.directives, within.few_directives)))
 within_limit s t (Step host count) ws says less within =
     limit_not whats.Steps (nat_lt most_steps (count_of_turns s + count))
     (le-ltb most_steps (count_of_turns s + count) (omega (arith, turns_more s (Step host count), less.steps, within.few_turns)))
@@ -120,9 +125,9 @@ next_called [] d (next ∷ list) armed arming =
 next_called (x ∷ front) d list armed arming =
     next_called front d list
     (λ n e at is.
-      let h = armed (suc n) e at is in
-      let place : suc (n + 1) ≡ suc n + 1 = omega arith in
-      (h.0, ap (slice_get (x ∷ front ++ d ∷ list)) place ∙ h.1, h.2))
+    let h = armed (suc n) e at is in
+    let place : suc (n + 1) ≡ suc n + 1 = omega arith in
+    (h.0, ap (slice_get (x ∷ front ++ d ∷ list)) place ∙ h.1, h.2))
     arming
 
 module _ (names : Words) (are : AreNames names) (host : ℕ) (w : List ℕ) (name : IsNameOf names host w) where
@@ -204,7 +209,7 @@ module _ (s t : Scenario) (ends : IsEnd t) (line : List ℕ) (behind : List (Lis
       let here : kept (line ∷ behind) ≡ words_of line ∷ kept behind = rw is refl in
       subst (λ (b : List Item). Zips (words_of line ∷ kept behind) news b) f
       (subst (λ (ns : Words). Zips (words_of line ∷ kept behind) ns g.body) e
-        (subst (λ (ks : List Words). Zips ks g.news g.body) here g.lines))
+      (subst (λ (ks : List Words). Zips ks g.news g.body) here g.lines))
 
   one_more : (item : Item) → SaysItem (names_of s.hosts) (is_begun s) (words_of line) item → is_unarmed item (words_of line) behind ≡ false
       → Grows (with_item s item) behind t → Continues s (line ∷ behind) t
@@ -224,8 +229,11 @@ module _ (s t : Scenario) (ends : IsEnd t) (line : List ℕ) (behind : List (Lis
       one_more (Host name)
       (record {
         spells = lines.0;
-        stands = (are.hosts (length (names_of s.hosts)) name (slice_get_seam (names_of s.hosts) name news),
-            fresh_name (names_of s.hosts) name news are, still);
+        stands = (
+          are.hosts (length (names_of s.hosts)) name (slice_get_seam (names_of s.hosts) name news),
+          fresh_name (names_of s.hosts) name news are,
+          still,
+        );
       })
       refl
       (record {
@@ -303,7 +311,7 @@ module _ (s t : Scenario) (ends : IsEnd t) (line : List ℕ) (behind : List (Lis
     does_first =
         one_more (Does host d) says_does armed_does
         (grown none (Does host d) body e (names-with_directive s.hosts host d)
-          (λ other. does_more s other host d body (has_host s (is_begun s) (words_of line) (Does host d) says_does)) refl g.volume g.geom)
+        (λ other. does_more s other host d body (has_host s (is_begun s) (words_of line) (Does host d) says_does)) refl g.volume g.geom)
 
   body_first : g.news ≡ [] → (item : Item) (body : List Item) → g.body ≡ item ∷ body → Continues s (line ∷ behind) t
   body_first none (Volume id geom) body e = absurd (of_body none (Volume id geom) body e).0

@@ -76,10 +76,10 @@ module _ (names : Words) (make : Option (List ℕ) → Directive) where
       line_same Directive names _ (λ ws. optional_at (codes "as") variable_at ws >>= (λ bind. end_at (make bind.0) bind.1))
       (λ ws. as_at ws >>= (λ bind. end_at (make bind.0) bind.1)) _
       (written_optional Directive names (codes "as") Variable variable_at IsVariableWord IsVariable as_part make
-        (written_keyword _ Directive names (codes "as") _ _ _ _ _ refl
-          (written_then _ _ _ names Variable End variable_at (λ name. end_at (make (Some name))) _ _ _ _ _ _ (variable_field names) variable_one
-            (λ name. written_end Directive names (make (Some name)))))
-        refl (λ name. refl))
+      (written_keyword _ Directive names (codes "as") _ _ _ _ _ refl
+      (written_then _ _ _ names Variable End variable_at (λ name. end_at (make (Some name))) _ _ _ _ _ _ (variable_field names) variable_one
+      (λ name. written_end Directive names (make (Some name)))))
+      refl (λ name. refl))
       (λ ws. ap (λ (r : Reads (Option (List ℕ) × Words)). r >>= (λ bind. end_at (make bind.0) bind.1)) (as_same ws))
 
   after_line : IsLine Directive names (Maybe (Then (Keyword (codes "after")) (Then AnyWord End)))
@@ -89,10 +89,10 @@ module _ (names : Words) (make : Option (List ℕ) → Directive) where
       line_same Directive names _ (λ ws. optional_at (codes "after") word_at ws >>= (λ after. end_at (make after.0) after.1))
       (λ ws. after_at ws >>= (λ after. end_at (make after.0) after.1)) _
       (written_optional Directive names (codes "after") AnyWord word_at IsWord FitsWord after_part make
-        (written_keyword _ Directive names (codes "after") _ _ _ _ _ refl
-          (written_then _ _ _ names AnyWord End word_at (λ name. end_at (make (Some name))) _ _ _ _ _ _ (word_field names) word_one
-            (λ name. written_end Directive names (make (Some name)))))
-        refl (λ name. refl))
+      (written_keyword _ Directive names (codes "after") _ _ _ _ _ refl
+      (written_then _ _ _ names AnyWord End word_at (λ name. end_at (make (Some name))) _ _ _ _ _ _ (word_field names) word_one
+      (λ name. written_end Directive names (make (Some name)))))
+      refl (λ name. refl))
       (λ ws. ap (λ (r : Reads (Option (List ℕ) × Words)). r >>= (λ after. end_at (make after.0) after.1)) (after_same ws))
 
 -- The lines of calls, by their fields.
@@ -114,8 +114,8 @@ module _ (names : Words) where
       written_then _ _ _ names Key _ key_at (λ key ws. number_at low high ws >>= (λ n. end_at (make key n.0) n.1)) _ _ _ _ _ _
       (key_field names) key_one
       (λ key. written_then _ _ _ names (Number low high) End (number_at low high) (λ n. end_at (make key n)) _ _ _ _ _ _
-        (number_field names low high small) (number_one low high)
-        (λ n. written_end Directive names (make key n)))
+      (number_field names low high small) (number_one low high)
+      (λ n. written_end Directive names (make key n)))
 
   pub named_line : (make : Spoken → List ℕ → Directive)
       → IsLine Directive names (named End) (λ ws. key_at ws >>= (λ dir. word_at dir.1 >>= (λ name. end_at (make dir.0 name.0) name.1)))
@@ -125,7 +125,7 @@ module _ (names : Words) where
       written_then _ _ _ names Key _ key_at (λ dir ws. word_at ws >>= (λ name. end_at (make dir name.0) name.1)) _ _ _ _ _ _
       (key_field names) key_one
       (λ dir. written_then _ _ _ names AnyWord End word_at (λ name. end_at (make dir name)) _ _ _ _ _ _ (word_field names) word_one
-        (λ name. written_end Directive names (make dir name)))
+      (λ name. written_end Directive names (make dir name)))
 
   pub binding_line : (make : Spoken → List ℕ → Option (List ℕ) → Directive)
       → IsLine Directive names binding
@@ -137,7 +137,7 @@ module _ (names : Words) where
       (λ dir ws. word_at ws >>= (λ name. as_at name.1 >>= (λ bind. end_at (make dir name.0 bind.0) bind.1))) _ _ _ _ _ _
       (key_field names) key_one
       (λ dir. written_then _ _ _ names AnyWord _ word_at (λ name ws. as_at ws >>= (λ bind. end_at (make dir name bind.0) bind.1)) _ _ _ _ _ _
-        (word_field names) word_one (λ name. as_line names (make dir name)))
+      (word_field names) word_one (λ name. as_line names (make dir name)))
 
   pub after_key_line : (make : Spoken → Option (List ℕ) → Directive)
       → IsLine Directive names (Then Key (Maybe (Then (Keyword (codes "after")) (Then AnyWord End))))
@@ -151,7 +151,7 @@ module _ (names : Words) where
   pub named_twice_line : (make : Spoken → List ℕ → Spoken → List ℕ → Directive)
       → IsLine Directive names (named (named End))
       (λ ws. key_at ws >>= (λ dir. word_at dir.1 >>= (λ name. key_at name.1 >>= (λ to. word_at to.1
-          >>= (λ fresh. end_at (make dir.0 name.0 to.0 fresh.0) fresh.1)))))
+      >>= (λ fresh. end_at (make dir.0 name.0 to.0 fresh.0) fresh.1)))))
       (Written (Spoken × (List ℕ × (Spoken × (List ℕ × Unit {0})))) Directive
       (λ v. key_word v.0 ∷ v.1.0 ∷ key_word v.1.1.0 ∷ v.1.1.1.0 ∷ [])
       (λ v. FitsKey v.0 × (FitsWord v.1.0 × (FitsKey v.1.1.0 × (FitsWord v.1.1.1.0 × Unit {0}))))
@@ -161,8 +161,8 @@ module _ (names : Words) where
       (λ dir ws. word_at ws >>= (λ name. key_at name.1 >>= (λ to. word_at to.1 >>= (λ fresh. end_at (make dir name.0 to.0 fresh.0) fresh.1))))
       _ _ _ _ _ _ (key_field names) key_one
       (λ dir. written_then _ _ _ names AnyWord _ word_at
-        (λ name ws. key_at ws >>= (λ to. word_at to.1 >>= (λ fresh. end_at (make dir name to.0 fresh.0) fresh.1)))
-        _ _ _ _ _ _ (word_field names) word_one (λ name. named_line (make dir name)))
+      (λ name ws. key_at ws >>= (λ to. word_at to.1 >>= (λ fresh. end_at (make dir name to.0 fresh.0) fresh.1)))
+      _ _ _ _ _ _ (word_field names) word_one (λ name. named_line (make dir name)))
 
   pub two_numbers_line : (low high least most : ℕ) → high < 2 ^ 64 → most < 2 ^ 64 → (make : Spoken → ℕ → ℕ → Directive)
       → IsLine Directive names (Then Key (Then (Number low high) (Then (Number least most) End)))
@@ -174,13 +174,13 @@ module _ (names : Words) where
       (λ key ws. number_at low high ws >>= (λ n. number_at least most n.1 >>= (λ m. end_at (make key n.0 m.0) m.1))) _ _ _ _ _ _
       (key_field names) key_one
       (λ key. written_then _ _ _ names (Number low high) _ (number_at low high)
-        (λ n ws. number_at least most ws >>= (λ m. end_at (make key n m.0) m.1)) _ _ _ _ _ _
-        (number_field names low high small) (number_one low high)
-        (λ n. written_then _ _ _ names (Number least most) End (number_at least most) (λ m. end_at (make key n m)) _ _ _ _ _ _
-          (number_field names least most slight) (number_one least most)
-          (λ m. written_end Directive names (make key n m))))
+      (λ n ws. number_at least most ws >>= (λ m. end_at (make key n m.0) m.1)) _ _ _ _ _ _
+      (number_field names low high small) (number_one low high)
+      (λ n. written_then _ _ _ names (Number least most) End (number_at least most) (λ m. end_at (make key n m)) _ _ _ _ _ _
+      (number_field names least most slight) (number_one least most)
+      (λ m. written_end Directive names (make key n m))))
 
--- The lines of other directives.
+  -- The lines of other directives.
 
   pub number_line : (low high : ℕ) → high < 2 ^ 64 → (make : ℕ → Directive)
       → IsLine Directive names (Then (Number low high) End) (λ ws. number_at low high ws >>= (λ n. end_at (make n.0) n.1))
@@ -205,7 +205,7 @@ module _ (names : Words) where
       written_then _ _ _ names PointName _ point_at (λ point ws. landing_at ws >>= (λ landed. end_at (make point landed.0) landed.1)) _ _ _ _ _ _
       (point_field names) point_one
       (λ point. written_then _ _ _ names Landing End landing_at (λ landed. end_at (make point landed)) _ _ _ _ _ _
-        (landing_field names) landing_one (λ landed. written_end Directive names (make point landed)))
+      (landing_field names) landing_one (λ landed. written_end Directive names (make point landed)))
 
   -- a host, and a number of this range
   abbrev host_number : ℕ → ℕ → (A : Type 0) → (ℕ → ℕ → A) → Words → Reads A
@@ -219,7 +219,7 @@ module _ (names : Words) where
       written_then _ _ _ names KnownHost _ (host_at names) (λ host ws. number_at low high ws >>= (λ n. end_at (make host n.0) n.1)) _ _ _ _ _ _
       (host_field names are) (host_one names)
       (λ host. written_then _ _ _ names (Number low high) End (number_at low high) (λ n. end_at (make host n)) _ _ _ _ _ _
-        (number_field names low high small) (number_one low high) (λ n. written_end A names (make host n)))
+      (number_field names low high small) (number_one low high) (λ n. written_end A names (make host n)))
 
   awaited_same : (make : ℕ → ℕ → Directive) (ws : Words)
       → (awaited_at names ws >>= (λ awaited. end_at (make awaited.0.0 awaited.0.1) awaited.1)) ≡ host_number 1 most_directives Directive make ws

@@ -69,7 +69,7 @@ module _ (names : Words) where
   table_tells (e ∷ es) w ws =
       entry_tells e ws (find (λ r. bytes_eq w r.word) (map row_of es)) (by_entry es w ws) (table_tells es w ws) (bytes_eq w e.word)
 
--- The table of all directives.
+  -- The table of all directives.
 
   abbrev entry : (word : List ℕ) (shape : Shape) {read : Words → Reads Directive} → IsDirective names word shape read → Entry names
   entry word shape {read} is = record { word = word; shape = shape; read = read; is = is }
@@ -130,7 +130,7 @@ module _ (names : Words) where
     directive_tells [] = refl
     directive_tells (w ∷ ws) = word_tells w ws (is_word w)
 
--- What is spelled is read.
+  -- What is spelled is read.
 
   append_none : (ws : Words) → ws ++ [] ≡ ws
   append_none [] = refl

@@ -191,10 +191,12 @@ module _ (s t : Scenario) (line : List ℕ) (behind : List (List ℕ)) where
   body_names item of_body no_name there g =
       let now : is_begun (with_item s item) ≡ true =
       begun_more s item there ∙ (ap (λ (b : Bool). is_begun s || b) of_body ∙ or_true (is_begun s)) in
-      let none : g.news ≡ [] = g.begun now in
-      (none, g.names ∙ (ap (λ (ws : Words). names_of (with_item s item).hosts ++ ws) none
-      ∙ (sym (words_none (names_of (with_item s item).hosts))
-      ∙ (names_more s item ∙ ap (λ (ws : Words). names_of s.hosts ++ ws) no_name))))
+      let none : g.news ≡ [] = g.begun now in (
+        none,
+        g.names ∙ (ap (λ (ws : Words). names_of (with_item s item).hosts ++ ws) none
+            ∙ (sym (words_none (names_of (with_item s item).hosts))
+            ∙ (names_more s item ∙ ap (λ (ws : Words). names_of s.hosts ++ ws) no_name))),
+      )
     where
       or_true : (b : Bool) → (b || true) ≡ true
       or_true true = refl

@@ -101,40 +101,40 @@ module _ (names : Words) where
     abbrev item_body : Bool → List ℕ × Words → Reads Item
     item_body begun w =
         if bytes_eq w.0 (codes "volume") then Err faults.Volume
-            else if bytes_eq w.0 (codes "host") then (if begun then Err faults.Host else host_line_at names w.1)
-            else if bytes_eq w.0 (codes "step") then step_at names w.1
-            else does_at names w.0 w.1
+        else if bytes_eq w.0 (codes "host") then (if begun then Err faults.Host else host_line_at names w.1)
+        else if bytes_eq w.0 (codes "step") then step_at names w.1
+        else does_at names w.0 w.1
 
     body_means : (w : List ℕ) (ws : Words) (begun volume host step : Bool) → (host ≡ true → w ≡ codes "host") → (step ≡ true → w ≡ codes "step")
         → IfOk (if volume then Err faults.Volume
-              else if host then (if begun then Err faults.Host else host_line_at names ws)
-              else if step then step_at names ws
-              else does_at names w ws)
-          (SaysItem names begun (w ∷ ws))
+        else if host then (if begun then Err faults.Host else host_line_at names ws)
+        else if step then step_at names ws
+        else does_at names w ws)
+        (SaysItem names begun (w ∷ ws))
     unfolding does_at
     body_means w ws begun true host step is_host is_step = tt
     body_means w ws true false true step is_host is_step = tt
     body_means w ws false false true step is_host is_step =
         IfOk-like _ (SaysItem names false (w ∷ ws)) (host_line_at names ws)
         (λ item h.
-          let says : SaysItem names false (w ∷ ws) (Host h.value.0) = record {
-            spells = ap (λ (first : List ℕ). first ∷ ws) (is_host refl) ∙ ap (λ (r : Words). codes "host" ∷ r) h.is;
-            stands = (h.fits.0.0, h.fits.0.1, refl);
-          } in
-          subst (λ i. SaysItem names false (w ∷ ws) i) (sym h.made) says)
+        let says : SaysItem names false (w ∷ ws) (Host h.value.0) = record {
+          spells = ap (λ (first : List ℕ). first ∷ ws) (is_host refl) ∙ ap (λ (r : Words). codes "host" ∷ r) h.is;
+          stands = (h.fits.0.0, h.fits.0.1, refl);
+        } in
+        subst (λ i. SaysItem names false (w ∷ ws) i) (sym h.made) says)
         (host_line.means ws)
     body_means w ws begun false false true is_host is_step =
         IfOk-like _ (SaysItem names begun (w ∷ ws)) (step_at names ws)
         (λ item h.
-          let says : SaysItem names begun (w ∷ ws) (Step h.value.0 h.value.1.0) = record {
-            spells = (
-              name_at names h.value.0,
-              slice_get-get_or names h.value.0 [] h.fits.0,
-              ap (λ (first : List ℕ). first ∷ ws) (is_step refl) ∙ ap (λ (r : Words). codes "step" ∷ r) h.is,
-            );
-            stands = (h.fits.0, h.fits.1.0.0, h.fits.1.0.1);
-          } in
-          subst (λ i. SaysItem names begun (w ∷ ws) i) (sym h.made) says)
+        let says : SaysItem names begun (w ∷ ws) (Step h.value.0 h.value.1.0) = record {
+          spells = (
+            name_at names h.value.0,
+            slice_get-get_or names h.value.0 [] h.fits.0,
+            ap (λ (first : List ℕ). first ∷ ws) (is_step refl) ∙ ap (λ (r : Words). codes "step" ∷ r) h.is,
+          );
+          stands = (h.fits.0, h.fits.1.0.0, h.fits.1.0.1);
+        } in
+        subst (λ i. SaysItem names begun (w ∷ ws) i) (sym h.made) says)
         (step_line.means ws)
     body_means w ws begun false false false is_host is_step = by_host_means w ws begun (host_named names w) refl
 
@@ -144,18 +144,18 @@ module _ (names : Words) where
     item_means begun (w ∷ ws) =
         first_word_means Item (item_body begun) w ws (SaysItem names begun (w ∷ ws))
         (body_means w ws begun (bytes_eq w (codes "volume")) (bytes_eq w (codes "host")) (bytes_eq w (codes "step"))
-          (bytes_eq-means w (codes "host")) (bytes_eq-means w (codes "step")))
+        (bytes_eq-means w (codes "host")) (bytes_eq-means w (codes "step")))
 
     body_tells : (w : List ℕ) (ws : Words) (begun volume host step : Bool)
         → (if volume then Some faults.Volume
-          else if host then (if begun then Some faults.Host else first_fault names host_shape ws)
-          else if step then first_fault names step_shape ws
-          else if is_among w names then directive_fault names ws
-          else Some faults.Host)
+        else if host then (if begun then Some faults.Host else first_fault names host_shape ws)
+        else if step then first_fault names step_shape ws
+        else if is_among w names then directive_fault names ws
+        else Some faults.Host)
         ≡ fault_in (if volume then Err faults.Volume
-              else if host then (if begun then Err faults.Host else host_line_at names ws)
-              else if step then step_at names ws
-              else does_at names w ws)
+        else if host then (if begun then Err faults.Host else host_line_at names ws)
+        else if step then step_at names ws
+        else does_at names w ws)
     unfolding does_at
     body_tells w ws begun true host step = refl
     body_tells w ws true false true step = refl

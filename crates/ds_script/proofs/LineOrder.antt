@@ -65,7 +65,7 @@ module _ (s : Scenario) (number : ℕ) (ws : Words) (behind : List (List ℕ)) w
   taken_gives : (item : Item) → SaysItem (names_of s.hosts) (is_begun s) ws item
       → (u : Bool) (l : Option What) → is_unarmed item ws behind ≡ u → limit_at s item ≡ l
       → LineGives s number ws behind (judged None u l)
-          (if u then Err (BadLine number faults.Arm) else option_map_or (λ what. Err (TooLarge what)) l (Ok (with_item s item)))
+      (if u then Err (BadLine number faults.Arm) else option_map_or (λ what. Err (TooLarge what)) l (Ok (with_item s item)))
   taken_gives item says true l e f = record { why = Bad faults.Arm; is = refl; told = refl }
   taken_gives item says false (Some what) e f = record { why = Large what; is = refl; told = refl }
   taken_gives item says false None e f = record {
@@ -87,7 +87,7 @@ module _ (s : Scenario) (number : ℕ) (ws : Words) (behind : List (List ℕ)) w
         let same : in_scenario (first ∷ rest) ws behind ≡ judged None (is_unarmed item ws behind) (limit_at s item) =
         ap (λ (f : Option LineFault). judged f (wants_call ws behind) (limit_passed (first ∷ rest) ws)) e
         ∙ (ap (λ (b : Bool). judged None b (limit_passed (first ∷ rest) ws))
-          (unarmed_same (names_of s.hosts) state.are (is_begun s) ws item behind says)
+        (unarmed_same (names_of s.hosts) state.are (is_begun s) ws item behind says)
         ∙ ap (λ (l : Option What). judged None (is_unarmed item ws behind) l) (limit_same s first rest ws item state says)) in
         subst (λ (t : Option Trouble). LineGives s number ws behind t (with_taken item)) (sym same)
         (taken_gives item says (is_unarmed item ws behind) (limit_at s item) refl refl)
@@ -211,7 +211,7 @@ module _ (lines : List (List ℕ)) (n : ℕ) (s : Scenario) (line : List ℕ) (b
   -- where this line is read, and then those behind it
   line_then : is_comment (words_of line) ≡ false
       → ((item : Item) → IsTaken s (words_of line) behind item
-        → ReadGives lines (n + 1) (with_item s item) behind (read_from (with_item s item) (n + 1 + 1) behind))
+      → ReadGives lines (n + 1) (with_item s item) behind (read_from (with_item s item) (n + 1 + 1) behind))
       → (r : Result Scenario ScriptFault) → LineGives s (n + 1) (words_of line) behind (trouble_at in_scenario lines n) r
       → ReadGives lines n s (line ∷ behind) (r >>= (λ next. read_from next (n + 1 + 1) behind))
   line_then is rest (Err f) h = record {
@@ -230,29 +230,29 @@ module _ (lines : List (List ℕ)) (n : ℕ) (s : Scenario) (line : List ℕ) (b
 
 by_comment : (lines : List (List ℕ)) (n : ℕ) (s : Scenario) (line : List ℕ) (behind : List (List ℕ)) (first : Words) (rest : List Words)
     → ((t : Scenario) (others : List Words) → drop (n + 1) lines ≡ behind → kept (take (n + 1) lines) ≡ first ∷ others → IsState t others
-      → ReadGives lines (n + 1) t behind (read_from t (n + 1 + 1) behind))
+    → ReadGives lines (n + 1) t behind (read_from t (n + 1 + 1) behind))
     → drop n lines ≡ line ∷ behind → kept (take n lines) ≡ first ∷ rest → IsState s rest → (b : Bool) → is_comment (words_of line) ≡ b
     → ReadGives lines n s (line ∷ behind) (if b then read_from s (n + 1 + 1) behind
-          else line_read s (n + 1) (words_of line) behind >>= (λ next. read_from next (n + 1 + 1) behind))
+    else line_read s (n + 1) (words_of line) behind >>= (λ next. read_from next (n + 1 + 1) behind))
 by_comment lines n s line behind first rest later at so state true is =
     let place = line_at lines n line behind at in
     let stands : trouble_at in_scenario lines n ≡ None =
     passed_stands in_scenario lines n (ap (λ (l : List ℕ). is_comment (words_of l)) place.here ∙ is) in
     one_more lines n s s line behind stands (λ t c. passed is c) (read_from s (n + 1 + 1) behind)
     (later s rest place.later
-      (place.kept_more ∙ (ap (λ (ks : List Words). kept (take n lines) ++ ks) (kept_passed line is)
-      ∙ (append_none (kept (take n lines)) ∙ so))) state)
+    (place.kept_more ∙ (ap (λ (ks : List Words). kept (take n lines) ++ ks) (kept_passed line is)
+    ∙ (append_none (kept (take n lines)) ∙ so))) state)
 by_comment lines n s line behind first rest later at so state false is =
     let place = line_at lines n line behind at in
     line_then lines n s line behind is
     (λ item taken. later (with_item s item) (rest ++ words_of line ∷ []) place.later
-      (place.kept_more ∙ (ap (λ (ks : List Words). kept (take n lines) ++ ks) (kept_line line is)
-      ∙ ap (λ (ks : List Words). ks ++ words_of line ∷ []) so))
-      (state_more s rest (words_of line) item state taken.says))
+    (place.kept_more ∙ (ap (λ (ks : List Words). kept (take n lines) ++ ks) (kept_line line is)
+    ∙ ap (λ (ks : List Words). ks ++ words_of line ∷ []) so))
+    (state_more s rest (words_of line) item state taken.says))
     (line_read s (n + 1) (words_of line) behind)
     (subst (λ (t : Option Trouble). LineGives s (n + 1) (words_of line) behind t (line_read s (n + 1) (words_of line) behind))
-      (sym (trouble_here in_scenario lines n line behind (first ∷ rest) place so is))
-      (line_gives s (n + 1) (words_of line) behind first rest state is))
+    (sym (trouble_here in_scenario lines n line behind (first ∷ rest) place so is))
+    (line_gives s (n + 1) (words_of line) behind first rest state is))
 
 pub read_from_gives : (lines suffix : List (List ℕ)) (n : ℕ) (s : Scenario) (first : Words) (rest : List Words) → drop n lines ≡ suffix
     → kept (take n lines) ≡ first ∷ rest → IsState s rest → ReadGives lines n s suffix (read_from s (n + 1) suffix)

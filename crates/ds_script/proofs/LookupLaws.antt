@@ -96,9 +96,9 @@ host_named-from names are w host is =
     let within = slice_get_within names host w is in
     position_from (bytes_eq w) names host
     (position_or_len_is (bytes_eq w) names host [] (omega (arith, within))
-      (λ k less. bytes_eq-other w (get_or names k [])
-        (λ e. absurd (omega (arith, less, are.apart k host w (slice_get-get_or names k [] (omega (arith, less, within)) ∙ ap Some (sym e)) is))))
-      (λ less. ap (bytes_eq w) (get_or_from_slice_get names host w [] is) ∙ bytes_eq-same w))
+    (λ k less. bytes_eq-other w (get_or names k [])
+    (λ e. absurd (omega (arith, less, are.apart k host w (slice_get-get_or names k [] (omega (arith, less, within)) ∙ ap Some (sym e)) is))))
+    (λ less. ap (bytes_eq w) (get_or_from_slice_get names host w [] is) ∙ bytes_eq-same w))
     within
 
 host_same : (names ws : Words) → host_at names ws ≡ by_word (λ w. found ℕ faults.Host (host_named names w)) ws
@@ -284,5 +284,5 @@ keyword_line B names word shape next Next is line =
     line_same B names (Then (Keyword word) shape) (λ ws. keyword_reader word ws >>= (λ r. next r.1)) (λ ws. keyword_at word ws >>= next)
     (BehindKeyword B word Next)
     (then_line (Unit {0}) B names (IsKeyword word) (λ x. Next) (λ x. next) (Keyword word) shape (keyword_reader word)
-      (keyword_field names word is) (λ x. line))
+    (keyword_field names word is) (λ x. line))
     (λ ws. sym (twice Words (Unit {0} × Words) B (keyword_at word ws) no_value (λ r. next r.1)))

@@ -1,7 +1,7 @@
 -- A fault of the lines of a text is the one that is told.
 use Rattle.std.proofs.Common.{◌≡◌, ℕ, ◌≤◌, inl, inr, Bool, List, length, Result, Ok, Err, ap, sym, ◌∙◌, subst}
 use Rattle.std.specs.Prelude.{if◌then◌else◌}
-use Rattle.std.proofs.lemmas.Bool.{lt-ltb, le-ltb}
+use Rattle.std.proofs.lemmas.Bool.{lt-ltb}
 use Rattle.ds_tree.specs.declared.scenarios.Scenario.{Scenario}
 use Rattle.ds_tree.specs.Lines.{lines_of}
 use Rattle.ds_tree.specs.Grammar.{most_bytes}
@@ -10,7 +10,7 @@ use Rattle.ds_script.specs.declared.faults.ScriptFault.TheVariants.{BadLine, Too
 use Rattle.ds_script.specs.declared.faults.What.TheVariants as whats
 use Rattle.ds_tree.specs.PlainPass.{PassesAll, IsStuck}
 use Rattle.ds_tree.proofs.PlainPasses.{one_answer, same_stuck}
-use Rattle.ds_script.specs.Answers.{IsAnswer, IsInOrder, OrNoMemory}
+use Rattle.ds_script.specs.Answers.{IsAnswer, OrNoMemory}
 use Rattle.ds_script.specs.Reading.{text_read, within_bytes}
 use Rattle.ds_script.specs.Results.{TellsPassing}
 use Rattle.ds_script.proofs.AgainLaws.{within_few, again}

@@ -218,8 +218,13 @@ state_more s rest ws item state says =
           ∙ (ap (λ (b : Bool). b || (is_body_line ws || false)) state.begun
           ∙ (ap (λ (b : Bool). is_begun s || b) (body ∙ none (is_step item || is_does item)) ∙ sym (begun_more s item there)));
       hosts = omega (arith, sum_by_push (λ (ws : Words). bit (is_host_line ws)) rest ws, state.hosts, ap bit kind.host, hosts_more s item);
-      directives = omega (arith, sum_by_push (λ (ws : Words). bit (is_directive_line ws)) rest ws, state.directives, ap bit kind.directive,
-          directives_more s item there);
+      directives = omega (
+        arith,
+        sum_by_push (λ (ws : Words). bit (is_directive_line ws)) rest ws,
+        state.directives,
+        ap bit kind.directive,
+        directives_more s item there,
+      );
       steps = omega (arith, sum_by_push turns_of rest ws, state.steps, kind.turns, turns_more s item);
       are = are_more s item state.are says.stands;
     }
@@ -244,9 +249,9 @@ limit_same s first rest ws item state says = rw (state.hosts, state.directives, 
   where
     by_kind : (item : Item) → IsKindOf ws item → MayStand (names_of s.hosts) (is_begun s) item
         → (if is_host_line ws && nat_le most_hosts (length s.hosts) then Some whats.Hosts
-          else if is_directive_line ws && nat_le most_directives (count_of_directives s) then Some whats.Directives
-          else if is_step_line ws && nat_lt most_steps (count_of_turns s + turns_of ws) then Some whats.Steps
-          else None) ≡ limit_at s item
+        else if is_directive_line ws && nat_le most_directives (count_of_directives s) then Some whats.Directives
+        else if is_step_line ws && nat_lt most_steps (count_of_turns s + turns_of ws) then Some whats.Steps
+        else None) ≡ limit_at s item
     by_kind (Volume id g) kind stands = absurd stands
     by_kind (Host name) kind stands = rw (kind.host, kind.directive, kind.step) refl
     by_kind (Does host d) kind stands = rw (kind.host, kind.directive, kind.step) refl

@@ -77,7 +77,7 @@ module _ (number : ℕ) (ws : Words) (behind : List (List ℕ)) where
 
   by_volume : (r : Reads (List ℕ × Geom)) → IfOk r (SaysVolume ws) → line_fault [] ws ≡ fault_in r
       → VolumeGives number ws behind
-          (on_line number r >>= (λ volume. if nat_lt most_sectors (total_of volume.1) then Err (TooLarge whats.Volume) else Ok volume))
+      (on_line number r >>= (λ volume. if nat_lt most_sectors (total_of volume.1) then Err (TooLarge whats.Volume) else Ok volume))
   by_volume (Err why) says e = record {
     why = Bad why;
     is = ap (λ (f : Option LineFault). judged f (wants_call ws behind) (limit_passed [] ws)) e;
@@ -161,13 +161,13 @@ module _ (lines : List (List ℕ)) (n : ℕ) where
       kept_so = at.kept_more ∙ (ap (λ (ks : List Words). ks ++ kept (line ∷ [])) so ∙ kept_line line is);
       volume = h;
       stand = λ j from less.
-        subst (λ i. trouble_at in_scenario lines i ≡ None) (omega (arith, from, less))
-        (trouble_here in_scenario lines n line behind [] at so is ∙ h.none);
+          subst (λ i. trouble_at in_scenario lines i ≡ None) (omega (arith, from, less))
+          (trouble_here in_scenario lines n line behind [] at so is ∙ h.none);
     }
 
     first_line : (is_comment (words_of line) ≡ true → FirstGives lines (n + 1) (first_read (n + 1 + 1) behind)) → (b : Bool) → is_comment (words_of line) ≡ b
         → FirstGives lines n (if b then first_read (n + 1 + 1) behind
-              else volume_read (n + 1) (words_of line) >>= (λ volume. Ok (volume, n + 1 + 1, behind)))
+        else volume_read (n + 1) (words_of line) >>= (λ volume. Ok (volume, n + 1 + 1, behind)))
     first_line rest true is =
         first_later (passed_stands in_scenario lines n (ap (λ (l : List ℕ). is_comment (words_of l)) at.here ∙ is))
         (first_read (n + 1 + 1) behind) (rest is)
@@ -212,7 +212,7 @@ module _ (lines : List (List ℕ)) where
   behind_first r first =
       subst (λ (number : ℕ). ReadGives lines first.m (scenario_of r.0) r.2 (read_from (scenario_of r.0) number r.2)) (sym first.number)
       (read_from_gives lines r.2 first.m (scenario_of r.0) (words_of first.line) [] first.later first.kept_so
-        (state_first (scenario_of r.0) refl refl))
+      (state_first (scenario_of r.0) refl refl))
 
   stands_before : (r : (List ℕ × Geom) × ℕ × List (List ℕ)) (first : FirstStands lines 0 r) (read : Result Scenario ScriptFault)
       → ReadGives lines first.m (scenario_of r.0) r.2 read → TextGives lines read

@@ -45,7 +45,7 @@ module _ (V B : Type 0) (shape : Shape) (words : V → Words) (Fit : V → Type 
   named_size_line word is field next make lines =
       line_same B [] _ (λ ws. keyword_at word ws >>= (λ behind. size_at field behind >>= (λ r. next r.0 r.1))) _ _
       (written_keyword (ℕ × V) B [] word (Then (Size field) shape) (λ behind. size_at field behind >>= (λ r. next r.0 r.1))
-        (λ v. decimal v.0 ∷ words v.1) (λ v. IsSize field v.0 × Fit v.1) (λ v. make v.0 v.1) is (size_line field next make lines))
+      (λ v. decimal v.0 ∷ words v.1) (λ v. IsSize field v.0 × Fit v.1) (λ v. make v.0 v.1) is (size_line field next make lines))
       (λ ws. once Words (ℕ × Words) B (keyword_at word ws) (size_at field) (λ r. next r.0 r.1))
 
 module _ (V B : Type 0) (shape : Shape) (words : V → Words) (Fit : V → Type 0) where
@@ -62,11 +62,11 @@ module _ (V B : Type 0) (shape : Shape) (words : V → Words) (Fit : V → Type 
       line_same B [] _
       (λ ws. named_size_at word (fields.Clusters kind) ws >>= (λ n. size_at (fields.Items kind) n.1 >>= (λ m. next n.0 m.0 m.1))) _ _
       (named_size_line (ℕ × V) B (Then (Size (fields.Items kind)) shape) (λ v. decimal v.0 ∷ words v.1)
-        (λ v. IsSize (fields.Items kind) v.0 × Fit v.1) word is (fields.Clusters kind)
-        (λ n ws. size_at (fields.Items kind) ws >>= (λ m. next n m.0 m.1)) (λ n v. make n v.0 v.1)
-        (λ n. size_line V B shape words Fit (fields.Items kind) (next n) (make n) (lines n)))
+      (λ v. IsSize (fields.Items kind) v.0 × Fit v.1) word is (fields.Clusters kind)
+      (λ n ws. size_at (fields.Items kind) ws >>= (λ m. next n m.0 m.1)) (λ n v. make n v.0 v.1)
+      (λ n. size_line V B shape words Fit (fields.Items kind) (next n) (make n) (lines n)))
       (λ ws. twice (ℕ × Words) (ℕ × Words) ((ℕ × ℕ) × Words) B (named_size_at word (fields.Clusters kind) ws)
-        (λ n. size_at (fields.Items kind) n.1) (λ n m. Ok ((n.0, m.0), m.1)) (λ r. next r.0.0 r.0.1 r.1))
+      (λ n. size_at (fields.Items kind) n.1) (λ n m. Ok ((n.0, m.0), m.1)) (λ r. next r.0.0 r.0.1 r.1))
 
 -- The geometry.
 
@@ -77,9 +77,31 @@ abbrev pub geom_from : (slots block a b c d e f g h : ℕ) → Geom
 geom_from slots block a b c d e f g h = record { slots = slots; block = block; clusters = a ∷ c ∷ e ∷ g ∷ []; items = b ∷ d ∷ f ∷ h ∷ [] }
 
 abbrev pub sizes_of : Geom → Sizes
-sizes_of g =
-    (g.slots, (g.block, (clusters_of g Fd, (per_cluster g Fd, (clusters_of g Sb, (per_cluster g Sb, (clusters_of g Pb, (per_cluster g Pb,
-    (clusters_of g Fb, (per_cluster g Fb, tt))))))))))
+sizes_of g = (
+  g.slots,
+  (
+    g.block,
+    (
+      clusters_of g Fd,
+      (
+        per_cluster g Fd,
+        (
+          clusters_of g Sb,
+          (
+            per_cluster g Sb,
+            (
+              clusters_of g Pb,
+              (
+                per_cluster g Pb,
+                (clusters_of g Fb, (per_cluster g Fb, tt)),
+              ),
+            ),
+          ),
+        ),
+      ),
+    ),
+  ),
+)
 
 abbrev pub geom_of : Sizes → Geom
 geom_of v =
@@ -139,9 +161,25 @@ sizes_geom v h (fields.Clusters Fb) = h.1.1.1.1.1.1.1.1.0
 sizes_geom v h (fields.Items Fb) = h.1.1.1.1.1.1.1.1.1.0
 
 geom_sizes : (g : Geom) → IsGeom g → AreSizes (sizes_of g)
-geom_sizes g is =
-    (is fields.Slots, (is fields.Block, (is (fields.Clusters Fd), (is (fields.Items Fd), (is (fields.Clusters Sb), (is (fields.Items Sb),
-    (is (fields.Clusters Pb), (is (fields.Items Pb), (is (fields.Clusters Fb), (is (fields.Items Fb), tt))))))))))
+geom_sizes g is = (
+  is fields.Slots,
+  (
+    is fields.Block,
+    (
+      is (fields.Clusters Fd),
+      (
+        is (fields.Items Fd),
+        (
+          is (fields.Clusters Sb),
+          (
+            is (fields.Items Sb),
+            (is (fields.Clusters Pb), (is (fields.Items Pb), (is (fields.Clusters Fb), (is (fields.Items Fb), tt)))),
+          ),
+        ),
+      ),
+    ),
+  ),
+)
 
 -- a geometry and its words
 record IsGeometry (ws : Words) (g : Geom) : Type 0 where
@@ -189,9 +227,9 @@ paired_line id =
     record {
       means = λ ws. paired_means id ws (geometry_at ws) (line.means ws);
       again = λ ws y h.
-        let read : geometry_at ws ≡ Ok y.1 = line.again ws y.1 h.geometry in
-        ap (λ (r : Reads Geom). r >>= (λ geom. Ok (id, geom))) read
-        ∙ ap (λ (i : List ℕ). Ok (i, y.1)) (sym h.same);
+          let read : geometry_at ws ≡ Ok y.1 = line.again ws y.1 h.geometry in
+          ap (λ (r : Reads Geom). r >>= (λ geom. Ok (id, geom))) read
+          ∙ ap (λ (i : List ℕ). Ok (i, y.1)) (sym h.same);
       tells = λ ws. line.tells ws ∙ paired_tells id (geometry_at ws);
     }
 

@@ -137,8 +137,8 @@ module _ (B : Type 0) (names : Words) (word : List ℕ) (class : Class) (name_at
     optional_means (w ∷ ws) =
         subst (λ (r : Reads B). IfOk r (WrittenOptional (w ∷ ws))) (sym (optional_given w ws))
         (IfOk-like (Given (w ∷ ws)) (WrittenOptional (w ∷ ws)) (given (w ∷ ws))
-          (λ y h. record { value = Some h.value.0; is = h.is ∙ sym (some h.value.0); fits = h.fits.0; made = h.made })
-          (line.means (w ∷ ws)))
+        (λ y h. record { value = Some h.value.0; is = h.is ∙ sym (some h.value.0); fits = h.fits.0; made = h.made })
+        (line.means (w ∷ ws)))
 
     optional_tells : (ws : Words) → first_fault names (Maybe (Then (Keyword word) (Then class End))) ws ≡ fault_in (optional_end ws)
     unfolding optional_at end_at first_fault
