@@ -57,8 +57,8 @@ record LeavesItems (lines : List (List ℕ)) (number : ℕ) (names : Words) (vol
   reads : first_read number lines ≡ Ok (volume, next, behind)
   spelled : AllZip (SpellsItem names) (kept behind) items
 
-module _ (names : Words) (volume : List ℕ × Geom) (items : List Item)
-    (says : (ws : Words) → SpellsItem names ws (Volume volume.0 volume.1) → SaysVolume ws volume) (few : total_of volume.1 ≤ most_sectors) where
+module _ (names : Words) (volume : List ℕ × Geom) (items : List Item) (few : total_of volume.1 ≤ most_sectors)
+    (says : (ws : Words) → SpellsItem names ws (Volume volume.0 volume.1) → SaysVolume ws volume) where
   abbrev Leaves : ℕ → List (List ℕ) → Type 0
   Leaves number lines = LeavesItems lines number names volume items
 
@@ -97,8 +97,8 @@ each_list P none hosts each [] are host = none
 each_list P none hosts each (plan ∷ plans) are zero = each plan are.0
 each_list P none hosts each (plan ∷ plans) are (suc host) = each_list P none hosts each plans are.1 host
 
-each_name : (hosts : ℕ) (plans : List HostPlan) → AllByRecursion (IsPlan hosts) plans → (i : ℕ) (name : List ℕ) → IsNameOf (names_of plans) i name
-    → IsHostName name
+each_name : (hosts : ℕ) (plans : List HostPlan) → AllByRecursion (IsPlan hosts) plans
+    → (i : ℕ) (name : List ℕ) → IsNameOf (names_of plans) i name → IsHostName name
 each_name hosts [] are i name e = absurd cc
 each_name hosts (plan ∷ plans) are zero name e =
     let same : plan.name ≡ name = cc in subst (λ (w : List ℕ). IsHostName w) same are.0.name
@@ -175,7 +175,8 @@ pub within_few : (bytes : List ℕ) → length bytes ≤ most_bytes → within_b
 within_few bytes few =
     ap (λ (b : Bool). if b then Err (TooLarge whats.Bytes) else text_read bytes) (le-ltb most_bytes (length bytes) few)
 
-text_from : (bytes : List ℕ) (volume : List ℕ × Geom) (number : ℕ) (behind : List (List ℕ)) → first_read 1 (lines_of bytes) ≡ Ok (volume, number, behind)
+text_from : (bytes : List ℕ) (volume : List ℕ × Geom) (number : ℕ) (behind : List (List ℕ))
+    → first_read 1 (lines_of bytes) ≡ Ok (volume, number, behind)
     → text_read bytes ≡ read_from (scenario_of volume) number behind
 unfolding text_read
 text_from bytes volume number behind e = rw e refl
@@ -192,9 +193,9 @@ module _ (bytes : List ℕ) (s : Scenario) (h : IsInOrder bytes s) where
 
   first : LeavesItems (lines_of bytes) 1 names volume (map Host names ++ body)
   first =
-      first_again names volume (map Host names ++ body)
+      first_again names volume (map Host names ++ body) h.few_sectors
       (λ ws spells. record { spells = spells; four = h.spells.is_scenario.four; geometry = h.spells.is_scenario.geometry })
-      h.few_sectors (lines_of bytes) 1 h.spells.lines
+      (lines_of bytes) 1 h.spells.lines
 
   lists : (host : ℕ) → list_at s.hosts host ≡ directives_in host body
   lists host = by_plan (slice_get s.hosts host) refl
@@ -205,11 +206,14 @@ module _ (bytes : List ℕ) (s : Scenario) (h : IsInOrder bytes s) where
           let left = body_left names names body (kept first.behind) first.spelled in
           sym (none_past names host (name_none s.hosts host e) body left.0 left.1)
 
+  abbrev AllFit : List Directive → Type 0
+  AllFit list = AllByRecursion (Fits (length s.hosts)) list
+
   stands : AllByRecursion (MayBe (length s.hosts)) body
   stands =
       may_be (length s.hosts) body h.spells.of_body
-      (λ host. subst (λ (ds : List Directive). AllByRecursion (Fits (length s.hosts)) ds) (lists host)
-      (each_list (λ ds. AllByRecursion (Fits (length s.hosts)) ds) tt (length s.hosts) (λ plan p. p.fit) s.hosts h.spells.is_scenario.plans host))
+      (λ host. subst (λ (ds : List Directive). AllFit ds) (lists host)
+      (each_list AllFit tt (length s.hosts) (λ plan p. p.fit) s.hosts h.spells.is_scenario.plans host))
       (subst (λ (steps : List (ℕ × ℕ)). AllByRecursion (IsStep (length s.hosts)) steps) h.spells.steps h.spells.is_scenario.steps)
 
   growth : Grows (scenario_of volume) first.behind s

@@ -57,7 +57,8 @@ grown_none s t g =
     g.names ∙ (ap (λ (ws : Words). names_of s.hosts ++ ws) none.0 ∙ append-nil (names_of s.hosts)) in
     let hosts : t.hosts ≡ s.hosts =
     plans_same s.hosts t.hosts names
-    (λ host. g.lists host ∙ (ap (λ (body : List Item). list_at s.hosts host ++ directives_in host body) none.1 ∙ append-nil (list_at s.hosts host))) in
+    (λ host. g.lists host
+    ∙ (ap (λ (body : List Item). list_at s.hosts host ++ directives_in host body) none.1 ∙ append-nil (list_at s.hosts host))) in
     let steps : t.steps ≡ s.steps = g.steps ∙ (ap (λ (body : List Item). s.steps ++ steps_in body) none.1 ∙ append-nil s.steps) in
     let volume : t.volume ≡ s.volume = g.volume in
     let geom : t.geom ≡ s.geom = g.geom in
@@ -90,9 +91,19 @@ record IsLess (s t : Scenario) : Type 0 where
 
 grows_less : (s t : Scenario) (suffix : List (List ℕ)) → Grows s suffix t → IsLess s t
 grows_less s t suffix g = record {
-  hosts = omega (arith, length_names s.hosts, length_names t.hosts, ap (λ (ws : Words). length ws) g.names, length-append (names_of s.hosts) g.news);
+  hosts = omega (
+    arith,
+    length_names s.hosts,
+    length_names t.hosts,
+    ap (λ (ws : Words). length ws) g.names,
+    length-append (names_of s.hosts) g.news,
+  );
   directives = lists_longer s.hosts t.hosts
-      (λ host. omega (arith, ap (λ (ds : List Directive). length ds) (g.lists host), length-append (list_at s.hosts host) (directives_in host g.body)));
+      (λ host. omega (
+        arith,
+        ap (λ (ds : List Directive). length ds) (g.lists host),
+        length-append (list_at s.hosts host) (directives_in host g.body),
+      ));
   steps = omega (arith, ap (sum_by turns) g.steps, sum_by-append turns s.steps (steps_in g.body));
 }
 
@@ -115,7 +126,8 @@ within_limit s t (Step host count) ws says less within =
 
 -- Calls behind directives about them.
 
-next_called : (front : List Directive) (d : Directive) (list : List Directive) → AreArmed (front ++ d ∷ list) → is_arming d ≡ true → NextIsCall list
+next_called : (front : List Directive) (d : Directive) (list : List Directive) → AreArmed (front ++ d ∷ list) → is_arming d ≡ true
+    → NextIsCall list
 next_called [] d [] armed arming = let h = armed 0 d refl arming in let none : None ≡ Some h.0 = h.1 in absurd cc
 next_called [] d (next ∷ list) armed arming =
     let h = armed 0 d refl arming in
@@ -131,6 +143,10 @@ next_called (x ∷ front) d list armed arming =
     arming
 
 module _ (names : Words) (are : AreNames names) (host : ℕ) (w : List ℕ) (name : IsNameOf names host w) where
+  -- a call comes next, where this directive is the host's or not
+  abbrev Led : Directive → List Item → Bool → Type 0
+  Led d body b = NextIsCall (cons_option (if b then Some d else None) (directives_in host body))
+
   abbrev Armed : List (List ℕ) → List Item → Type 0
   Armed suffix body = NextIsCall (directives_in host body) → is_armed w suffix ≡ true
 
@@ -151,12 +167,12 @@ module _ (names : Words) (are : AreNames names) (host : ℕ) (w : List ℕ) (nam
     | inl same ↦
         let own : IsNameOf names other w = subst (λ (h : ℕ). IsNameOf names h w) same name in
         let first : NextIsCall (d ∷ directives_in host body) =
-        subst (λ (b : Bool). NextIsCall (cons_option (if b then Some d else None) (directives_in host body))) (eq-eqb host other same) calls in
+        subst (λ (b : Bool). Led d body b) (eq-eqb host other same) calls in
         armed_here w line behind is (begins_own names are (words_of line) other d lines.0 w own)
         ∙ (second_is_call names are (words_of line) other d lines.0 ∙ first)
     | inr different ↦
         let later : NextIsCall (directives_in host body) =
-        subst (λ (b : Bool). NextIsCall (cons_option (if b then Some d else None) (directives_in host body))) (ne_eqb host other different) calls in
+        subst (λ (b : Bool). Led d body b) (ne_eqb host other different) calls in
         armed_later w line behind is (begins_other names are (words_of line) other d lines.0 host w name different)
         ∙ rest body of_body.1 lines.1 later
   ]
@@ -215,7 +231,11 @@ module _ (s t : Scenario) (ends : IsEnd t) (line : List ℕ) (behind : List (Lis
       → Grows (with_item s item) behind t → Continues s (line ∷ behind) t
   one_more item says armed next =
       more item is
-      (record { says = says; armed = armed; within = within_limit s t item (words_of line) says (grows_less (with_item s item) t behind next) ends.within })
+      (record {
+        says = says;
+        armed = armed;
+        within = within_limit s t item (words_of line) says (grows_less (with_item s item) t behind next) ends.within;
+      })
       (rest (with_item s item) next)
 
   host_first : (name : List ℕ) (news : Words) → g.news ≡ name ∷ news → Continues s (line ∷ behind) t
@@ -271,7 +291,8 @@ module _ (s t : Scenario) (ends : IsEnd t) (line : List ℕ) (behind : List (Lis
     spells = subst (λ (ns : Words). SpellsItem ns (words_of line) item) all lines.0
 
     grown : names_of (with_item s item).hosts ≡ names_of s.hosts
-        → ((host : ℕ) → list_at (with_item s item).hosts host ++ directives_in host body ≡ list_at s.hosts host ++ directives_in host (item ∷ body))
+        → ((host : ℕ) → list_at (with_item s item).hosts host ++ directives_in host body
+        ≡ list_at s.hosts host ++ directives_in host (item ∷ body))
         → (with_item s item).steps ++ steps_in body ≡ s.steps ++ steps_in (item ∷ body)
         → t.volume ≡ (with_item s item).volume → t.geom ≡ (with_item s item).geom → Grows (with_item s item) behind t
     grown same lists steps volume geom = record {
@@ -305,7 +326,8 @@ module _ (s t : Scenario) (ends : IsEnd t) (line : List ℕ) (behind : List (Lis
         let at = lines none (Does host d) body e in
         ap (λ (ws : Words). is_unarmed (Does host d) ws behind) at.0.3
         ∙ unarmed_not (is_arming d) (is_armed at.0.0 behind)
-        (λ arming. calls_behind names ends.within.are host at.0.0 at.0.2 behind body (of_body none (Does host d) body e).1 at.1 (called_next arming))
+        (λ arming. calls_behind names ends.within.are host at.0.0 at.0.2 behind body (of_body none (Does host d) body e).1 at.1
+        (called_next arming))
 
     does_first : Continues s (line ∷ behind) t
     does_first =
@@ -330,7 +352,8 @@ module _ (s t : Scenario) (ends : IsEnd t) (line : List ℕ) (behind : List (Lis
 
 -- All lines.
 
-past_line : (s t : Scenario) (line : List ℕ) (behind : List (List ℕ)) → is_comment (words_of line) ≡ true → Grows s (line ∷ behind) t → Grows s behind t
+past_line : (s t : Scenario) (line : List ℕ) (behind : List (List ℕ)) → is_comment (words_of line) ≡ true → Grows s (line ∷ behind) t
+    → Grows s behind t
 past_line s t line behind is g =
     let here : kept (line ∷ behind) ≡ kept behind = rw is refl in
     record {
@@ -348,7 +371,8 @@ past_line s t line behind is g =
     }
 
 by_line : (s t : Scenario) → IsEnd t → (line : List ℕ) (behind : List (List ℕ)) → Grows s (line ∷ behind) t
-    → ((next : Scenario) → Grows next behind t → Continues next behind t) → (b : Bool) → is_comment (words_of line) ≡ b → Continues s (line ∷ behind) t
+    → ((next : Scenario) → Grows next behind t → Continues next behind t) → (b : Bool) → is_comment (words_of line) ≡ b
+    → Continues s (line ∷ behind) t
 by_line s t ends line behind g rest true is = passed is (rest s (past_line s t line behind is g))
 by_line s t ends line behind g rest false is = first_line s t ends line behind is g rest g.news g.body refl refl
 
