@@ -6,7 +6,7 @@ use Rattle.std.proofs.lemmas.Bool.{and_parts, or_parts, cases_eq, false≢true, 
 use Rattle.ds_tree.specs.declared.scenarios.Directive.{Directive}
 use Rattle.ds_tree.specs.declared.scenarios.Scenario.{Scenario}
 use Rattle.ds_tree.specs.Lines.{Words, words_of, is_comment, is_run, is_word}
-use Rattle.ds_tree.specs.Grammar.{names_of, IsNameOf, IsHostName, AreArmed, is_call, is_arming, Item, Volume, Host, Does, Step}
+use Rattle.ds_tree.specs.Grammar.{names_of, IsNameOf, IsHostName, AreArmed, is_call, is_arming, Item, Volume, Host, Does, Step, SpellsItem}
 use Rattle.ds_tree.specs.PlainPass.{list_at}
 use Rattle.ds_script.specs.Faults.{begins_with, word_at, is_first_of, call_rows, is_armed}
 use Rattle.ds_script.specs.Reading.{is_begun, with_directive, with_item, is_unarmed}
@@ -25,10 +25,10 @@ run_first : (w : List ℕ) (ws : Words) → is_run w ≡ true → filter is_run 
 run_first w ws is = ap (λ (b : Bool). cond b (w ∷ filter is_run ws) (filter is_run ws)) is
 
 module _ (w line : List ℕ) (behind : List (List ℕ)) (is : is_comment (words_of line) ≡ false) where
-  armed_later : begins_with w (filter is_run (words_of line)) ≡ false → is_armed w (line ∷ behind) ≡ is_armed w behind
+  pub armed_later : begins_with w (filter is_run (words_of line)) ≡ false → is_armed w (line ∷ behind) ≡ is_armed w behind
   armed_later other = rw (is, other) refl
 
-  armed_here : begins_with w (filter is_run (words_of line)) ≡ true
+  pub armed_here : begins_with w (filter is_run (words_of line)) ≡ true
       → is_armed w (line ∷ behind) ≡ is_first_of call_rows (word_at (filter is_run (words_of line)) 1)
   armed_here same = rw (is, same) refl
 
@@ -38,18 +38,43 @@ label_run w name =
     (and_parts (is_run w) (nat_le 1 (length w)) (and_parts (is_run w && nat_le 1 (length w)) (nat_le (length w) 255) word).0).0
 
 -- a host's name isn't one of the words that begin lines of their own
-not_host : (w : List ℕ) → IsHostName w → bytes_eq (codes "host") w ≡ false
+pub not_host : (w : List ℕ) → IsHostName w → bytes_eq (codes "host") w ≡ false
 not_host w name =
     let last = or_parts (bytes_eq w (codes "volume") || bytes_eq w (codes "host")) (bytes_eq w (codes "step")) name.free in
     let first = or_parts (bytes_eq w (codes "volume")) (bytes_eq w (codes "host")) last.0 in
     bytes_eq-other (codes "host") w
     (λ e. false≢true (sym first.1 ∙ (ap (λ (v : List ℕ). bytes_eq v (codes "host")) (sym e) ∙ bytes_eq-same (codes "host"))))
 
-not_step : (w : List ℕ) → IsHostName w → bytes_eq (codes "step") w ≡ false
+pub not_step : (w : List ℕ) → IsHostName w → bytes_eq (codes "step") w ≡ false
 not_step w name =
     let last = or_parts (bytes_eq w (codes "volume") || bytes_eq w (codes "host")) (bytes_eq w (codes "step")) name.free in
     bytes_eq-other (codes "step") w
     (λ e. false≢true (sym last.1 ∙ (ap (λ (v : List ℕ). bytes_eq v (codes "step")) (sym e) ∙ bytes_eq-same (codes "step"))))
+
+-- the runs of a directive's line: its host's name, and then its first word
+module _ (names : Words) (are : AreNames names) (ws : Words) (host : ℕ) (d : Directive) (spells : SpellsItem names ws (Does host d)) where
+  pub does_run : filter is_run ws ≡ spells.0 ∷ filter is_run spells.1
+  does_run = ap (filter is_run) spells.3 ∙ run_first spells.0 spells.1 (label_run spells.0 (are.hosts host spells.0 spells.2))
+
+  second_word : word_at (filter is_run ws) 1 ≡ directive_word d
+  second_word =
+      let begins = directive_begins names spells.1 d spells.4 in
+      ap (λ (ws : Words). word_at ws 1)
+      (does_run ∙ ap (λ (ws : Words). spells.0 ∷ ws) (ap (filter is_run) begins.1 ∙ run_first (directive_word d) begins.0 (directive_run d)))
+
+  -- whether the second of them is the first word of a call
+  pub second_is_call : is_first_of call_rows (word_at (filter is_run ws) 1) ≡ is_call d
+  second_is_call = ap (is_first_of call_rows) second_word ∙ word_is_call names spells.1 d spells.4
+
+  pub begins_own : (w : List ℕ) → IsNameOf names host w → begins_with w (filter is_run ws) ≡ true
+  begins_own w h =
+      let same : spells.0 ≡ w = let both : Some spells.0 ≡ Some w = sym spells.2 ∙ h in cc in
+      ap (begins_with w) does_run ∙ (ap (λ (v : List ℕ). bytes_eq v w) same ∙ bytes_eq-same w)
+
+  pub begins_other : (other : ℕ) (w : List ℕ) → IsNameOf names other w → other ≢ host → begins_with w (filter is_run ws) ≡ false
+  begins_other other w h different =
+      ap (begins_with w) does_run
+      ∙ bytes_eq-other spells.0 w (λ e. different (are.apart other host w h (spells.2 ∙ ap (λ (v : List ℕ). Some v) e)))
 
 -- The lists.
 
@@ -113,35 +138,19 @@ module _ (s t : Scenario) (line : List ℕ) (behind : List (List ℕ)) (host : �
     abbrev word : List ℕ
     word = says.spells.0
 
-    word_run : filter is_run (words_of line) ≡ word ∷ filter is_run says.spells.1
-    word_run =
-        ap (filter is_run) says.spells.3 ∙ run_first word says.spells.1 (label_run word (are.hosts other word says.spells.2))
-
     stays : (w : List ℕ) → IsNameOf (names_of s.hosts) host w → IsNameOf (names_of (with_item s (Does other d)).hosts) host w
     stays w h = subst (λ (names : Words). IsNameOf names host w) (sym (names-with_directive s.hosts other d)) h
 
     adds_other : host ≢ other → Adds s (line ∷ behind) t host
     adds_other different =
         later (with_item s (Does other d)) (Does other d) is (at_other s.hosts host other d different) stays
-        (λ w h. ap (begins_with w) word_run
-          ∙ bytes_eq-other word w (λ e. different (are.apart host other w h
-            (says.spells.2 ∙ ap (λ (v : List ℕ). Some v) e))))
+        (λ w h. begins_other (names_of s.hosts) are (words_of line) other d says.spells host w h different)
         a
-
-    second_is_call : word_at (filter is_run (words_of line)) 1 ≡ directive_word d
-    second_is_call =
-        let begins = directive_begins (names_of s.hosts) says.spells.1 d says.spells.4 in
-        ap (λ (ws : Words). word_at ws 1)
-        (word_run ∙ ap (λ (ws : Words). word ∷ ws)
-          (ap (filter is_run) begins.1 ∙ run_first (directive_word d) begins.0 (directive_run d)))
 
     called : (w : List ℕ) → IsNameOf (names_of s.hosts) other w → is_armed w (line ∷ behind) ≡ true → is_call d ≡ true
     called w h found =
-        let same : word ≡ w = let both : Some word ≡ Some w = sym says.spells.2 ∙ h in cc in
-        let begins : begins_with w (filter is_run (words_of line)) ≡ true =
-        ap (begins_with w) word_run ∙ (ap (λ (v : List ℕ). bytes_eq v w) same ∙ bytes_eq-same w) in
-        sym (word_is_call (names_of s.hosts) says.spells.1 d says.spells.4)
-        ∙ (ap (is_first_of call_rows) (sym second_is_call) ∙ (sym (armed_here w line behind is begins) ∙ found))
+        sym (second_is_call (names_of s.hosts) are (words_of line) other d says.spells)
+        ∙ (sym (armed_here w line behind is (begins_own (names_of s.hosts) are (words_of line) other d says.spells w h)) ∙ found)
 
     arms : is_arming d ≡ true → is_armed word behind ≡ true
     arms arming =
