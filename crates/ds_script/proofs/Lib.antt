@@ -35,3 +35,5 @@ mod ScenarioLaws
 mod ArmedCalls
 mod AnswerLaws
 mod OnlyLaws
+mod NextKept
+mod VolumeTexts

@@ -61,7 +61,7 @@ pub record VolumeStands (ws : Words) (behind : List (List ℕ)) (volume : List �
   pub says : SaysVolume ws volume
   pub few : total_of volume.1 ≤ most_sectors
 
-abbrev VolumeGives : ℕ → Words → List (List ℕ) → Result (List ℕ × Geom) ScriptFault → Type 0
+abbrev pub VolumeGives : ℕ → Words → List (List ℕ) → Result (List ℕ × Geom) ScriptFault → Type 0
 VolumeGives number ws behind (Ok volume) = VolumeStands ws behind volume
 VolumeGives number ws behind (Err f) = IsRefused number (in_scenario [] ws behind) f
 
@@ -89,7 +89,7 @@ module _ (number : ℕ) (ws : Words) (behind : List (List ℕ)) where
       ∙ (ap (λ (b : Bool). judged None b (limit_passed [] ws)) (ap (λ (ws : Words). wants_call ws behind) says.spells.2)
       ∙ ap (λ (g : Geom). judged None false (in_limit (nat_lt most_sectors (total_of g)))) (geometry_same ws volume says)))
 
-  volume_gives : is_comment ws ≡ false → VolumeGives number ws behind (volume_read number ws)
+  pub volume_gives : is_comment ws ≡ false → VolumeGives number ws behind (volume_read number ws)
   unfolding volume_read
   volume_gives is = by_volume (volume_line_at ws) (volume_line_means ws) (volume_line_tells ws is)
 

@@ -19,3 +19,4 @@ mod tests;
 
 pub use faults::{LineFault, ScriptFault, What};
 pub use passing::{Pass, plain_pass};
+pub use reading::read_volume;
