@@ -78,7 +78,7 @@ module _ (names : Words) (are : AreNames names) (ws : Words) (host : ℕ) (d : D
 
 -- The lists.
 
-abbrev NextIsCall : List Directive → Type 0
+abbrev pub NextIsCall : List Directive → Type 0
 NextIsCall [] = ⊥
 NextIsCall (d ∷ list) = is_call d ≡ true
 

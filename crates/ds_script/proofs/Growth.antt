@@ -69,7 +69,7 @@ pub none_more : (list : List Directive) → list ≡ list ++ []
 none_more [] = refl
 none_more (d ∷ list) = ap (λ (ds : List Directive). d ∷ ds) (none_more list)
 
-does_more : (s : Scenario) (host other : ℕ) (d : Directive) (body : List Item) → other < length s.hosts
+pub does_more : (s : Scenario) (host other : ℕ) (d : Directive) (body : List Item) → other < length s.hosts
     → list_at (with_item s (Does other d)).hosts host ++ directives_in host body ≡ list_at s.hosts host ++ directives_in host (Does other d ∷ body)
 does_more s host other d body there = elim (cases_eq host other) [
   | inl same ↦

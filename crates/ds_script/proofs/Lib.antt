@@ -33,6 +33,8 @@ mod Growth
 mod Within
 mod ScenarioLaws
 mod ArmedCalls
+mod Continuing
+mod AgainLaws
 mod AnswerLaws
 mod OnlyLaws
 mod NextKept

@@ -13,6 +13,7 @@ use Rattle.ds_tree.proofs.PlainPasses.{one_answer, same_stuck}
 use Rattle.ds_script.specs.Answers.{IsAnswer, IsInOrder, OrNoMemory}
 use Rattle.ds_script.specs.Reading.{text_read, within_bytes}
 use Rattle.ds_script.specs.Results.{TellsPassing}
+use Rattle.ds_script.proofs.AgainLaws.{within_few, again}
 use Rattle.ds_script.proofs.TextLaws.{TextGives, text_gives, IsFaultOf, fault_told, one_fault, none_told}
 
 -- a fault of lines is what is read of them
@@ -20,13 +21,9 @@ fault_read : (lines : List (List ℕ)) (f : ScriptFault) → IsFaultOf lines f �
 fault_read lines f h (Ok s) gives = absurd (none_told lines s gives f h)
 fault_read lines f h (Err g) gives = ap (λ (e : ScriptFault). Err e) (one_fault lines g f (fault_told lines g gives) h)
 
-within : (bytes : List ℕ) → length bytes ≤ most_bytes → within_bytes bytes (text_read bytes) ≡ text_read bytes
-within bytes few =
-    ap (λ (b : Bool). if b then Err (TooLarge whats.Bytes) else text_read bytes) (le-ltb most_bytes (length bytes) few)
-
 lines_read : (bytes : List ℕ) → length bytes ≤ most_bytes → (f : ScriptFault) → IsFaultOf (lines_of bytes) f
     → within_bytes bytes (text_read bytes) ≡ Err f
-lines_read bytes few f h = within bytes few ∙ fault_read (lines_of bytes) f h (text_read bytes) (text_gives bytes)
+lines_read bytes few f h = within_few bytes few ∙ fault_read (lines_of bytes) f h (text_read bytes) (text_gives bytes)
 
 -- a fault of a line, or a limit that is passed
 abbrev pub IsOfText : ScriptFault → Type 0
@@ -58,7 +55,7 @@ pub only_fault : (bytes : List ℕ) (f : ScriptFault) → IsOfText f → IsAnswe
     → TellsPassing result (within_bytes bytes (text_read bytes)) → OrNoMemory result (result ≡ Err f)
 only_fault bytes f of h result told = told_only f (within_bytes bytes (text_read bytes)) (fault_is_read bytes f of h) result told
 
--- The only answer, where each scenario that a text spells is read of it.
+-- The only answer.
 
 passing : (s : Scenario) (read : Result Scenario ScriptFault) → read ≡ Ok s → PassesAll s.hosts → (result : Result Scenario ScriptFault)
     → TellsPassing result read → OrNoMemory result (result ≡ Ok s)
@@ -86,13 +83,12 @@ stopping s host directive read is stops (Err g) (inr (inr stuck)) =
     let equal = same_stuck s.hosts stuck.host stuck.directive host directive there stops in
     inr (ap (λ (e : ScriptFault). Err e) (stuck.told ∙ (ap (λ (h : ℕ). Stuck h stuck.directive) equal.0 ∙ ap (λ (d : ℕ). Stuck host d) equal.1)))
 
-pub only_answer : (bytes : List ℕ) → ((s : Scenario) → IsInOrder bytes s → within_bytes bytes (text_read bytes) ≡ Ok s)
-    → (result : Result Scenario ScriptFault) → TellsPassing result (within_bytes bytes (text_read bytes))
+pub only_answer : (bytes : List ℕ) (result : Result Scenario ScriptFault) → TellsPassing result (within_bytes bytes (text_read bytes))
     → (answer : Result Scenario ScriptFault) → IsAnswer bytes answer → OrNoMemory result (result ≡ answer)
-only_answer bytes again result told (Ok s) is =
-    passing s (within_bytes bytes (text_read bytes)) (again s is.in_order) is.passes result told
-only_answer bytes again result told (Err (BadLine number why)) is = only_fault bytes (BadLine number why) tt is result told
-only_answer bytes again result told (Err (TooLarge what)) is = only_fault bytes (TooLarge what) tt is result told
-only_answer bytes again result told (Err (Stuck host directive)) is =
-    stopping is.scenario host directive (within_bytes bytes (text_read bytes)) (again is.scenario is.in_order) is.stuck result told
-only_answer bytes again result told (Err NoMemory) is = absurd is
+only_answer bytes result told (Ok s) is =
+    passing s (within_bytes bytes (text_read bytes)) (again bytes s is.in_order) is.passes result told
+only_answer bytes result told (Err (BadLine number why)) is = only_fault bytes (BadLine number why) tt is result told
+only_answer bytes result told (Err (TooLarge what)) is = only_fault bytes (TooLarge what) tt is result told
+only_answer bytes result told (Err (Stuck host directive)) is =
+    stopping is.scenario host directive (within_bytes bytes (text_read bytes)) (again bytes is.scenario is.in_order) is.stuck result told
+only_answer bytes result told (Err NoMemory) is = absurd is

@@ -44,7 +44,7 @@ length-with_directive [] host d = refl
 length-with_directive (plan ∷ plans) zero d = refl
 length-with_directive (plan ∷ plans) (suc host) d = ap suc (length-with_directive plans host d)
 
-abbrev list_length : HostPlan → ℕ
+abbrev pub list_length : HostPlan → ℕ
 list_length plan = length plan.list
 
 length_push : (list : List Directive) (d : Directive) → length (list ++ d ∷ []) ≡ length list + 1
