@@ -17,7 +17,7 @@ use Rattle.ds_script.specs.declared.faults.ScriptFault.{ScriptFault}
 use Rattle.ds_script.specs.declared.faults.ScriptFault.TheVariants.{BadLine, TooLarge, Stuck, NoMemory}
 use Rattle.ds_script.specs.declared.faults.What.{What}
 use Rattle.ds_script.specs.declared.faults.What.TheVariants as whats
-use Rattle.ds_script.specs.Faults.{most_sectors, line_fault, limit_passed, geometry_of, Trouble, Bad, Large, in_scenario, trouble_at, IsFirst, IsFirstBad, PassesLimit}
+use Rattle.ds_script.specs.Faults.{most_sectors, line_fault, limit_passed, geometry_of, Trouble, Bad, Large, Judge, in_scenario, trouble_at, IsFirst, IsFirstBad, PassesLimit}
 use Rattle.ds_script.specs.Reading.{◌>>=◌, Reads, on_line, volume_line_at, volume_read, first_read, scenario_of, read_from, text_read}
 use Rattle.ds_script.proofs.Readers.{fault_in}
 use Rattle.ds_script.proofs.Fronts.{words_of-none}
@@ -242,24 +242,33 @@ text_gives bytes =
 -- The fault of a text.
 
 -- the first line that can't stand is told so
-abbrev pub IsFaultOf : List (List ℕ) → ScriptFault → Type 0
-IsFaultOf lines (BadLine number why) = IsFirstBad in_scenario lines number why
-IsFaultOf lines (TooLarge what) = PassesLimit in_scenario lines what
-IsFaultOf lines (Stuck host directive) = ⊥
-IsFaultOf lines NoMemory = ⊥
+abbrev pub HasFault : Judge → List (List ℕ) → ScriptFault → Type 0
+HasFault judge lines (BadLine number why) = IsFirstBad judge lines number why
+HasFault judge lines (TooLarge what) = PassesLimit judge lines what
+HasFault judge lines (Stuck host directive) = ⊥
+HasFault judge lines NoMemory = ⊥
 
-told_first : (lines : List (List ℕ)) (k : ℕ) (why : Trouble) → IsFirst in_scenario lines k why → IsFaultOf lines (refusal (k + 1) why)
-told_first lines k (Bad why) h = inl (k, refl, h)
-told_first lines k (Large what) h = (k, h)
+abbrev pub IsFaultOf : List (List ℕ) → ScriptFault → Type 0
+IsFaultOf lines f = HasFault in_scenario lines f
+
+module _ (judge : Judge) (lines : List (List ℕ)) where
+  first_fault_told : (k : ℕ) (why : Trouble) → IsFirst judge lines k why → HasFault judge lines (refusal (k + 1) why)
+  first_fault_told k (Bad why) h = inl (k, refl, h)
+  first_fault_told k (Large what) h = (k, h)
+
+  pub first_told : (k : ℕ) (why : Trouble) (f : ScriptFault) → IsFirst judge lines k why → f ≡ refusal (k + 1) why → HasFault judge lines f
+  first_told k why f first told = subst (λ f. HasFault judge lines f) (sym told) (first_fault_told k why first)
+
+  pub lacks_told : (f : ScriptFault) → Lacks lines f → HasFault judge lines f
+  lacks_told f lacks =
+      let told : HasFault judge lines (BadLine (length lines + 1) faults.Volume) =
+      inr (record { none = lacks.none; at_end = refl; volume = refl }) in
+      subst (λ f. HasFault judge lines f) (sym lacks.told) told
 
 pub fault_told : (lines : List (List ℕ)) (f : ScriptFault) → IsFirstFrom lines 0 f ⊎ Lacks lines f → IsFaultOf lines f
 fault_told lines f (inl h) =
-    subst (λ f. IsFaultOf lines f) (sym h.told)
-    (told_first lines h.k h.why (record { stands_not = h.stands_not; first = λ j less. h.first j (omega arith) less }))
-fault_told lines f (inr lacks) =
-    let told : IsFaultOf lines (BadLine (length lines + 1) faults.Volume) =
-    inr (record { none = lacks.none; at_end = refl; volume = refl }) in
-    subst (λ f. IsFaultOf lines f) (sym lacks.told) told
+    first_told in_scenario lines h.k h.why f (record { stands_not = h.stands_not; first = λ j less. h.first j (omega arith) less }) h.told
+fault_told lines f (inr lacks) = lacks_told in_scenario lines f lacks
 
 -- There is one such fault.
 

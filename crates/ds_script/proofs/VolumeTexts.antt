@@ -23,7 +23,7 @@ use Rattle.ds_script.proofs.LineSteps.{first_read-none, first_read-passed, first
 use Rattle.ds_script.proofs.NextKept.{IsPassed, NoneKept, NextKept, is_inside, next_kept, kept_to, kept_around}
 use Rattle.ds_script.proofs.Rightly.{ReadsRightly}
 use Rattle.ds_script.proofs.TextAnswers.{volume_answered, only_volume_answered}
-use Rattle.ds_script.proofs.TextLaws.{VolumeStands, VolumeGives, volume_gives, Lacks}
+use Rattle.ds_script.proofs.TextLaws.{VolumeStands, VolumeGives, volume_gives, Lacks, HasFault, first_told, lacks_told}
 use Rattle.ds_script.proofs.VolumeLaws.{SaysVolume, volume_line_again}
 
 abbrev Read : Type 0
@@ -218,23 +218,9 @@ module _ (lines : List (List ℕ)) where
 
 -- What a text of a volume owes.
 
--- a fault that lines have
-abbrev IsFaultOf : List (List ℕ) → ScriptFault → Type 0
-IsFaultOf lines (BadLine number why) = IsFirstBad in_volume lines number why
-IsFaultOf lines (TooLarge what) = PassesLimit in_volume lines what
-IsFaultOf lines (Stuck host directive) = ⊥
-IsFaultOf lines NoMemory = ⊥
-
-first_told : (lines : List (List ℕ)) (k : ℕ) (why : Trouble) → IsFirst in_volume lines k why → IsFaultOf lines (refusal (k + 1) why)
-first_told lines k (Bad why) h = inl (k, refl, h)
-first_told lines k (Large what) h = (k, h)
-
-fault_told : (lines : List (List ℕ)) (f : ScriptFault) → TextGives lines (Err f) → IsFaultOf lines f
-fault_told lines f (inl h) = subst (λ f. IsFaultOf lines f) (sym h.told) (first_told lines h.k h.why h.first)
-fault_told lines f (inr lacks) =
-    let told : IsFaultOf lines (BadLine (length lines + 1) faults.Volume) =
-    inr (record { none = lacks.none; at_end = refl; volume = refl }) in
-    subst (λ f. IsFaultOf lines f) (sym lacks.told) told
+fault_told : (lines : List (List ℕ)) (f : ScriptFault) → TextGives lines (Err f) → HasFault in_volume lines f
+fault_told lines f (inl h) = first_told in_volume lines h.k h.why f h.first h.told
+fault_told lines f (inr lacks) = lacks_told in_volume lines f lacks
 
 not_bytes : (before : List Words) (ws : Words) (behind : List (List ℕ)) (b : Bool)
     → (if b then None else in_volume before ws behind) ≡ Some (Large whats.Bytes) → ⊥
@@ -284,7 +270,7 @@ module _ (bytes : List ℕ) where
   one_good : (volume : List ℕ × Geom) → IsOneLine (lines_of bytes) volume → IsGood in_volume (lines_of bytes)
   one_good volume h = record { stands = h.stand; some = λ none. let both : words_of h.line ∷ [] ≡ [] = sym h.alone ∙ none in absurd cc }
 
-  fault_so : (f : ScriptFault) → volume_text_read bytes ≡ Err f → IsFaultOf (lines_of bytes) f
+  fault_so : (f : ScriptFault) → volume_text_read bytes ≡ Err f → HasFault in_volume (lines_of bytes) f
   fault_so f e = fault_told (lines_of bytes) f (gives_so (Err f) e)
 
   reads_rightly : length bytes ≤ most_bytes → ReadsRightly in_volume bytes (volume_text_read bytes) (λ v. IsVolumeText bytes v.0 v.1)
