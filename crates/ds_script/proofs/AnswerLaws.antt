@@ -46,7 +46,7 @@ judged_not_bytes None true limit other e = cc
 judged_not_bytes None false None other e = cc
 judged_not_bytes None false (Some what) other e = let is : what ≡ whats.Bytes = cc in other (ap (λ (w : What). Some w) is)
 
-trouble_not_bytes : (before : List Words) (ws : Words) (behind : List (List ℕ)) (b : Bool)
+pub trouble_not_bytes : (before : List Words) (ws : Words) (behind : List (List ℕ)) (b : Bool)
     → (if b then None else in_scenario before ws behind) ≡ Some (Large whats.Bytes) → ⊥
 trouble_not_bytes before ws behind true e = cc
 trouble_not_bytes before ws behind false e =

@@ -37,3 +37,5 @@ mod Continuing
 mod AgainLaws
 mod AnswerLaws
 mod OnlyLaws
+mod NextKept
+mod VolumeTexts

@@ -17,7 +17,7 @@ use Rattle.ds_script.specs.declared.faults.ScriptFault.{ScriptFault}
 use Rattle.ds_script.specs.declared.faults.ScriptFault.TheVariants.{BadLine, TooLarge, Stuck, NoMemory}
 use Rattle.ds_script.specs.declared.faults.What.{What}
 use Rattle.ds_script.specs.declared.faults.What.TheVariants as whats
-use Rattle.ds_script.specs.Faults.{most_sectors, line_fault, limit_passed, geometry_of, Trouble, Bad, Large, in_scenario, trouble_at, IsFirst, IsFirstBad, PassesLimit}
+use Rattle.ds_script.specs.Faults.{most_sectors, line_fault, limit_passed, geometry_of, Trouble, Bad, Large, Judge, in_scenario, trouble_at, IsFirst, IsFirstBad, PassesLimit}
 use Rattle.ds_script.specs.Reading.{◌>>=◌, Reads, on_line, volume_line_at, volume_read, first_read, scenario_of, read_from, text_read}
 use Rattle.ds_script.proofs.Readers.{fault_in}
 use Rattle.ds_script.proofs.Fronts.{words_of-none}
@@ -61,7 +61,7 @@ pub record VolumeStands (ws : Words) (behind : List (List ℕ)) (volume : List �
   pub says : SaysVolume ws volume
   pub few : total_of volume.1 ≤ most_sectors
 
-abbrev VolumeGives : ℕ → Words → List (List ℕ) → Result (List ℕ × Geom) ScriptFault → Type 0
+abbrev pub VolumeGives : ℕ → Words → List (List ℕ) → Result (List ℕ × Geom) ScriptFault → Type 0
 VolumeGives number ws behind (Ok volume) = VolumeStands ws behind volume
 VolumeGives number ws behind (Err f) = IsRefused number (in_scenario [] ws behind) f
 
@@ -89,7 +89,7 @@ module _ (number : ℕ) (ws : Words) (behind : List (List ℕ)) where
       ∙ (ap (λ (b : Bool). judged None b (limit_passed [] ws)) (ap (λ (ws : Words). wants_call ws behind) says.spells.2)
       ∙ ap (λ (g : Geom). judged None false (in_limit (nat_lt most_sectors (total_of g)))) (geometry_same ws volume says)))
 
-  volume_gives : is_comment ws ≡ false → VolumeGives number ws behind (volume_read number ws)
+  pub volume_gives : is_comment ws ≡ false → VolumeGives number ws behind (volume_read number ws)
   unfolding volume_read
   volume_gives is = by_volume (volume_line_at ws) (volume_line_means ws) (volume_line_tells ws is)
 
@@ -242,24 +242,33 @@ text_gives bytes =
 -- The fault of a text.
 
 -- the first line that can't stand is told so
-abbrev pub IsFaultOf : List (List ℕ) → ScriptFault → Type 0
-IsFaultOf lines (BadLine number why) = IsFirstBad in_scenario lines number why
-IsFaultOf lines (TooLarge what) = PassesLimit in_scenario lines what
-IsFaultOf lines (Stuck host directive) = ⊥
-IsFaultOf lines NoMemory = ⊥
+abbrev pub HasFault : Judge → List (List ℕ) → ScriptFault → Type 0
+HasFault judge lines (BadLine number why) = IsFirstBad judge lines number why
+HasFault judge lines (TooLarge what) = PassesLimit judge lines what
+HasFault judge lines (Stuck host directive) = ⊥
+HasFault judge lines NoMemory = ⊥
 
-told_first : (lines : List (List ℕ)) (k : ℕ) (why : Trouble) → IsFirst in_scenario lines k why → IsFaultOf lines (refusal (k + 1) why)
-told_first lines k (Bad why) h = inl (k, refl, h)
-told_first lines k (Large what) h = (k, h)
+abbrev pub IsFaultOf : List (List ℕ) → ScriptFault → Type 0
+IsFaultOf lines f = HasFault in_scenario lines f
+
+module _ (judge : Judge) (lines : List (List ℕ)) where
+  first_fault_told : (k : ℕ) (why : Trouble) → IsFirst judge lines k why → HasFault judge lines (refusal (k + 1) why)
+  first_fault_told k (Bad why) h = inl (k, refl, h)
+  first_fault_told k (Large what) h = (k, h)
+
+  pub first_told : (k : ℕ) (why : Trouble) (f : ScriptFault) → IsFirst judge lines k why → f ≡ refusal (k + 1) why → HasFault judge lines f
+  first_told k why f first told = subst (λ f. HasFault judge lines f) (sym told) (first_fault_told k why first)
+
+  pub lacks_told : (f : ScriptFault) → Lacks lines f → HasFault judge lines f
+  lacks_told f lacks =
+      let told : HasFault judge lines (BadLine (length lines + 1) faults.Volume) =
+      inr (record { none = lacks.none; at_end = refl; volume = refl }) in
+      subst (λ f. HasFault judge lines f) (sym lacks.told) told
 
 pub fault_told : (lines : List (List ℕ)) (f : ScriptFault) → IsFirstFrom lines 0 f ⊎ Lacks lines f → IsFaultOf lines f
 fault_told lines f (inl h) =
-    subst (λ f. IsFaultOf lines f) (sym h.told)
-    (told_first lines h.k h.why (record { stands_not = h.stands_not; first = λ j less. h.first j (omega arith) less }))
-fault_told lines f (inr lacks) =
-    let told : IsFaultOf lines (BadLine (length lines + 1) faults.Volume) =
-    inr (record { none = lacks.none; at_end = refl; volume = refl }) in
-    subst (λ f. IsFaultOf lines f) (sym lacks.told) told
+    first_told in_scenario lines h.k h.why f (record { stands_not = h.stands_not; first = λ j less. h.first j (omega arith) less }) h.told
+fault_told lines f (inr lacks) = lacks_told in_scenario lines f lacks
 
 -- There is one such fault.
 

@@ -19,4 +19,4 @@ mod reading_tests;
 
 pub use faults::{LineFault, ScriptFault, What};
 pub use passing::{Pass, plain_pass};
-pub use reading::read;
+pub use reading::{read, read_volume};

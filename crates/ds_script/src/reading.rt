@@ -1,13 +1,14 @@
 //! Reading texts of scenarios and of volumes.
 #![tactic(auto, using(crate::proofs::LineSteps::line_steps))]
 
-ghost use Rattle.std.specs.Prelude.{◌≡◌, ◌+◌, ◌≤◌, IfOk, length, Err, Result};
+ghost use Rattle.std.specs.Prelude.{◌≡◌, ℕ, ◌+◌, ◌≤◌, IfOk, List, length, Result, Err};
+ghost use Rattle.ds_base.specs.declared.geometry.Geom.{Geom};
 ghost use Rattle.ds_layout.specs.Places.{total_of};
 ghost use Rattle.ds_tree.specs.Grammar.{most_bytes};
 ghost use Rattle.ds_tree.specs.Lines.{lines_of, words_of};
 ghost use Rattle.ds_tree.specs.declared.scenarios.Scenario.{Scenario};
+ghost use Rattle.ds_script.specs.Answers.{IsAnswer, IsVolumeAnswer, OrNoMemory};
 ghost use Rattle.ds_script.specs.declared.faults.ScriptFault.{ScriptFault};
-ghost use Rattle.ds_script.specs.Answers.{IsAnswer, OrNoMemory};
 ghost use Rattle.ds_script.specs.Passing.{AreNumbered};
 ghost use Rattle.ds_script.specs.Reading.{first_read, line_read, none_read, only_volume_read, read_from, scenario_of, text_read, volume_read, volume_text_read, within_bytes};
 ghost use Rattle.ds_script.specs.Results.{Gives, Tells, TellsPassing};
@@ -48,8 +49,16 @@ fn read_passing(alloc: Global, bytes: &[u8]) -> Result<Scenario, ScriptFault>
 }
 
 /// The volume that a text of one volume line is: its id and its geometry.
-#[tactic(auto, unfolding(crate::specs::Reading::volume_text_read))]
 pub fn read_volume(bytes: &[u8]) -> Result<(Uuid, Geom), ScriptFault>
+    ensures answer { IsVolumeAnswer bytes.now result }
+    ensures only { (answer : Result (List ℕ × Geom) ScriptFault) → IsVolumeAnswer bytes.now answer → result ≡ answer }
+{
+    read_volume_text(bytes)
+}
+
+/// The volume that is read of a text.
+#[tactic(auto, unfolding(crate::specs::Reading::volume_text_read))]
+fn read_volume_text(bytes: &[u8]) -> Result<(Uuid, Geom), ScriptFault>
     ensures { result ≡ within_bytes bytes.now (volume_text_read bytes.now) }
 {
     if bytes.len() > MOST_BYTES {

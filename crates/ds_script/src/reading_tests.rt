@@ -170,25 +170,65 @@ fn tells_the_first_fault_of_a_volume(rt: HostRuntime) -> Result<(), Fail> {
 }
 
 #[test]
-fn reads_a_volume_line(rt: HostRuntime) -> Result<(), Fail> {
-    let (id, geom) = read_volume(VOLUME)?;
-    let want = Geom {
+fn reads_a_text_of_one_volume_line(rt: HostRuntime) -> Result<(), Fail> {
+    let id = Uuid::parse_str("6f1d0c52-8a3b-4e57-9c11-2b7a90d4e001")?;
+    let geom = Geom {
         slots: 4,
         block: 1,
         clusters: [1; 4],
         items: [16, 8, 8, 64],
     };
-    assert_eq!(rt;
-        id,
-        Uuid::parse_str("6f1d0c52-8a3b-4e57-9c11-2b7a90d4e001")?
-    );
-    assert_eq!(rt; geom, want);
-    let mut more = Vec::from_slice(rt.alloc(), VOLUME)?;
-    more.extend_from_slice(b"# then\nhost a")?;
-    assert_eq!(rt;
-        read_volume(more.as_slice()).err(),
-        bad(3, LineFault::Volume)
-    );
+    let table = [
+        // the line alone, and lines around it that are passed over
+        (VOLUME, None),
+        (
+            b"volume {6F1D0C52-8a3b-4e57-9c11-2b7a90d4e001} slots 4 block 1 fd 1 16 sb 1 8 pb 1 8 fb 1 64".as_slice(),
+            None,
+        ),
+        (
+            b"\n# one\n \t\r\n\tvolume 6f1d0c528a3b4e579c112b7a90d4e001 slots 4 block 1 fd 1 16 sb 1 8 pb 1 8\tfb 1 64\r\n\n #host a\n",
+            None,
+        ),
+        // a line behind it
+        (
+            b"volume 6f1d0c528a3b4e579c112b7a90d4e001 slots 4 block 1 fd 1 16 sb 1 8 pb 1 8 fb 1 64\n# then\n\nhost a",
+            bad(4, LineFault::Volume),
+        ),
+        (
+            b"\nvolume 6f1d0c528a3b4e579c112b7a90d4e001 slots 4 block 1 fd 1 16 sb 1 8 pb 1 8 fb 1 64\n\x80\nhost a\n",
+            bad(3, LineFault::Volume),
+        ),
+        // no line
+        (b"", bad(1, LineFault::Volume)),
+        (b"\n \t\n#volume", bad(4, LineFault::Volume)),
+        (b"#\nhost a\n", bad(2, LineFault::Volume)),
+        // sizes out of their ranges
+        (
+            b"#\n#\nvolume 6f1d0c528a3b4e579c112b7a90d4e001 slots 0 block 1 fd 1 16 sb 1 8 pb 1 8 fb 1 64\nhost a\n",
+            bad(3, LineFault::Geom),
+        ),
+        (
+            b"volume 6f1d0c528a3b4e579c112b7a90d4e001 slots 4 block 2049 fd 1 16 sb 1 8 pb 1 8 fb 1 64\n",
+            bad(1, LineFault::Geom),
+        ),
+        (
+            b"volume 6f1d0c528a3b4e579c112b7a90d4e001 slots 4 block 1 fd 1 16 sb 1 8 pb 1 8 fb 9 64\n",
+            bad(1, LineFault::Geom),
+        ),
+        // too many sectors, which is told before a line behind
+        (
+            b"volume 6f1d0c528a3b4e579c112b7a90d4e001 slots 4 block 2048 fd 1 16 sb 1 8 pb 1 8 fb 1 64\nhost a\n",
+            Some(ScriptFault::TooLarge { what: What::Volume }),
+        ),
+    ];
+    for (text, want) in &table {
+        let read = read_volume(text);
+        assert_eq!(rt; read.is_ok(), want.is_none());
+        match read {
+            Ok(volume) => assert_eq!(rt; volume, (id, geom)),
+            Err(fault) => assert_eq!(rt; Some(fault), *want),
+        }
+    }
     Ok(())
 }
 
