@@ -44,7 +44,7 @@ module _ (X : Type 0) (walk : ℕ → List (List ℕ) → X)
   at_end n all = record {
     front = ap kept (sym (take_all n lines (omega (arith, all))));
     passed = λ j from.
-      ap (λ (line : List ℕ). is_comment (words_of line)) (get_or_past lines j [] (omega (arith, all, from))) ∙ ap is_comment (words_of-none [] refl);
+        ap (λ (line : List ℕ). is_comment (words_of line)) (get_or_past lines j [] (omega (arith, all, from))) ∙ ap is_comment (words_of-none [] refl);
     walked = ap (λ (n : ℕ). walk (n + 1) []) all;
   }
 

@@ -1,5 +1,5 @@
 -- A text as one volume line: where it is refused, its first line that can't stand is told; where it is read, it is that line alone.
-use Rattle.std.proofs.Common.{◌≡◌, ℕ, ◌+◌, ◌≤◌, ◌<◌, ◌⊎◌, inl, inr, Bool, true, false, List, [], ◌∷◌, ◌++◌, length, get_or, take, drop, Result, Ok, Err, Option, Some, None, refl, ap, sym, ◌∙◌, subst, arith}
+use Rattle.std.proofs.Common.{◌≡◌, ℕ, ◌+◌, ◌≤◌, ◌<◌, ◌⊎◌, inl, inr, Bool, true, false, List, [], ◌∷◌, length, get_or, take, drop, Result, Ok, Err, Some, None, refl, ap, sym, ◌∙◌, subst, arith}
 use Rattle.std.specs.Prelude.{nat_lt, if◌then◌else◌}
 use Rattle.std.specs.List.{AllZip}
 use Rattle.std.proofs.lemmas.Bool.{le-ltb, cases_order}
@@ -7,20 +7,18 @@ use Rattle.ds_base.specs.declared.geometry.Geom.{Geom}
 use Rattle.ds_layout.specs.Places.{total_of}
 use Rattle.ds_tree.specs.Lines.{Words, lines_of, words_of, is_comment, kept}
 use Rattle.ds_tree.specs.Grammar.{most_bytes, Item, Volume, SpellsItem}
-use Rattle.ds_script.specs.declared.faults.LineFault.{LineFault}
 use Rattle.ds_script.specs.declared.faults.LineFault.TheVariants as faults
 use Rattle.ds_script.specs.declared.faults.ScriptFault.{ScriptFault}
 use Rattle.ds_script.specs.declared.faults.ScriptFault.TheVariants.{BadLine, TooLarge, Stuck, NoMemory}
-use Rattle.ds_script.specs.declared.faults.What.{What}
 use Rattle.ds_script.specs.declared.faults.What.TheVariants as whats
 use Rattle.ds_script.specs.Answers.{IsVolumeText, IsVolumeAnswer}
-use Rattle.ds_script.specs.Faults.{most_sectors, Trouble, Bad, Large, in_volume, trouble_at, IsFirst, IsFirstBad, PassesLimit}
-use Rattle.ds_script.specs.Reading.{◌>>=◌, volume_line_at, volume_read, first_read, none_read, only_volume_read, volume_text_read, within_bytes}
+use Rattle.ds_script.specs.Faults.{most_sectors, Trouble, Bad, Large, in_volume, trouble_at, IsFirst, PassesLimit}
+use Rattle.ds_script.specs.Reading.{◌>>=◌, volume_read, first_read, none_read, only_volume_read, volume_text_read, within_bytes}
 use Rattle.ds_script.proofs.AnswerLaws.{trouble_not_bytes}
 use Rattle.ds_script.proofs.FirstTroubles.{IsGood}
 use Rattle.ds_script.proofs.LineOrder.{refusal, passed_stands, IsAt, line_at, trouble_here}
 use Rattle.ds_script.proofs.LineSteps.{first_read-none, first_read-passed, first_read-ok, first_read-err, none_read-none, none_read-passed, none_read-kept}
-use Rattle.ds_script.proofs.NextKept.{IsPassed, NoneKept, NextKept, is_inside, next_kept, kept_to, kept_around}
+use Rattle.ds_script.proofs.NextKept.{NoneKept, NextKept, is_inside, next_kept, kept_to, kept_around}
 use Rattle.ds_script.proofs.Rightly.{ReadsRightly}
 use Rattle.ds_script.proofs.TextAnswers.{volume_answered, only_volume_answered}
 use Rattle.ds_script.proofs.TextLaws.{VolumeStands, VolumeGives, volume_gives, Lacks, HasFault, first_told, lacks_told}
@@ -174,7 +172,7 @@ module _ (lines : List (List ℕ)) where
   by_first (inr first) =
       subst (λ (r : First). TextGives lines (lines_read r)) (sym first.walked)
       (volume_then first (volume_read (first.k + 1) (words_of first.line)) refl
-        (volume_gives (first.k + 1) (words_of first.line) first.behind first.keeps))
+      (volume_gives (first.k + 1) (words_of first.line) first.behind first.keeps))
 
   next_first : NoneKept First first_read lines lines 0 ⊎ NextFirst lines
   next_first = next_kept First first_read first_passes lines lines 0 refl (omega arith)
