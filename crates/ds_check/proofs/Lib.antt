@@ -1,3 +1,5 @@
+pub mod ItemMarks
+pub mod ItemUsers
 pub mod Pending
 pub mod Reading
 pub mod Rows

@@ -5,9 +5,13 @@ mod controls;
 mod findings;
 mod growing;
 mod journals;
+mod listed;
+mod marking;
 mod marks;
 mod reports;
+mod sharing;
 mod texts;
+mod uses;
 
 pub use findings::Find;
 pub use reports::Report;
