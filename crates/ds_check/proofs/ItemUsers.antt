@@ -1,5 +1,5 @@
 -- What objects list, and tables of users that grow object by object.
-use Rattle.std.proofs.Common.{◌≡◌, ◌≢◌, ℕ, ◌+◌, ◌<◌, ◌≤◌, cond, Bool, false, nat_le, eqb, List, [], ◌∷◌, ◌++◌, length, take, map, filter, get_or, Option, Some, None, refl, sym, ap, subst, ◌∙◌, append_assoc, arith}
+use Rattle.std.proofs.Common.{◌≡◌, ◌≢◌, ℕ, ◌+◌, ◌<◌, ◌≤◌, cond, false, nat_le, eqb, List, [], ◌∷◌, ◌++◌, length, take, map, filter, get_or, Option, Some, None, refl, sym, ap, subst, ◌∙◌, append_assoc, arith}
 use Rattle.std.specs.Prelude.{slice_get}
 use Rattle.std.specs.List.{flat_map, range_with_len}
 use Rattle.std.proofs.lemmas.Bool.{ne_eqb}
@@ -14,8 +14,7 @@ use Rattle.ds_base.specs.declared.names.NodeKind.TheVariants as kinds
 use Rattle.ds_fd.specs.declared.body.Body.{Body}
 use Rattle.ds_image.specs.Objects.{addresses_in, ptrs_of, blocks_of}
 use Rattle.ds_image.specs.Parts.{Parts, part_at}
-use Rattle.ds_image.specs.Users.{users, users_in, uses_by, KnowsUsers}
-use Rattle.ds_check.specs.declared.findings.Find.{Find}
+use Rattle.ds_image.specs.Users.{users, uses_by, KnowsUsers}
 use Rattle.ds_check.specs.declared.findings.Find.TheVariants.{Twice}
 use Rattle.ds_check.specs.Objects.{twice}
 
@@ -56,8 +55,8 @@ pub uses-more : (table : List (List ℕ)) (uses : List (ℕ × ℕ)) (object : �
     → KnowsUsers table (uses ++ uses_by object (take (i + 1) items))
 uses-more table uses object items i there knows =
     subst (KnowsUsers table) (
-      append_assoc uses (uses_by object (take i items)) ((get_or items i 0, object) ∷ [])
-      ∙ ap (λ us. uses ++ us) (sym (map_more (λ item. (item, object)) items i 0 there))) knows
+    append_assoc uses (uses_by object (take i items)) ((get_or items i 0, object) ∷ [])
+    ∙ ap (λ us. uses ++ us) (sym (map_more (λ item. (item, object)) items i 0 there))) knows
 
 -- the lists of the numbers below one, and then that of the number
 lists-more : {A : Type 0} (each : ℕ → List A) (n : ℕ) → flat_map each (range_with_len 0 n) ++ each n ≡ flat_map each (range_with_len 0 (n + 1))

@@ -10,6 +10,8 @@ mod marking;
 mod marks;
 mod reports;
 mod sharing;
+#[cfg(test)]
+mod small_volume;
 mod texts;
 mod uses;
 

@@ -20,5 +20,5 @@ returns c =
     on_ok_then c.note_unmarked.result
     (λ (noted : c.note_unmarked.new.report ≡ c.note_marked.new.report ++ row (items_of g kind) (λ n. find_if (bit c.deref-2.result.now n && not (bit marked n)) (finds.Unmarked kind n))).
     mismarked-noted g c.args.parts.now kind marked c.deref.result.now c.args.report.now c.note_marked.new.report c.note_unmarked.new.report c.requires used c.in_ok-note_marked.ensures (
-      noted ∙ ap (λ us. c.note_marked.new.report ++ row (items_of g kind) (λ n. find_if (bit us n && not (bit marked n)) (finds.Unmarked kind n))) same))
+    noted ∙ ap (λ us. c.note_marked.new.report ++ row (items_of g kind) (λ n. find_if (bit us n && not (bit marked n)) (finds.Unmarked kind n))) same))
     c.note_unmarked.ensures

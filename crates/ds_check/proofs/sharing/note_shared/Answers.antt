@@ -1,5 +1,5 @@
 -- One more item is noted where it has two users.
-use Rattle.std.proofs.Common.{◌≡◌, ◌<◌, length, sym, ap, ◌∙◌, arith}
+use Rattle.std.proofs.Common.{◌<◌, length, arith}
 use Rattle.ds_image.specs.Users.{users}
 use Rattle.ds_check.specs.Objects.{uses_of, twice}
 use Rattle.ds_check.proofs.Rows.{row_step}

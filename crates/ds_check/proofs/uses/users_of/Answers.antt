@@ -17,6 +17,6 @@ loop-object-preserved c =
     record {
       count = c.note_uses.ensures.count ∙ c.loop-object.invariant.count;
       knows = objects-more c.note_uses.new.table each o (
-        subst (λ xs. KnowsUsers c.note_uses.new.table (flat_map each (range_with_len 0 o) ++ uses_by o xs)) items
-        (c.note_uses.ensures.knows (flat_map each (range_with_len 0 o)) c.loop-object.invariant.knows));
+          subst (λ xs. KnowsUsers c.note_uses.new.table (flat_map each (range_with_len 0 o) ++ uses_by o xs)) items
+          (c.note_uses.ensures.knows (flat_map each (range_with_len 0 o)) c.loop-object.invariant.knows));
     }
