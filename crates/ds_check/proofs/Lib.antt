@@ -1,4 +1,6 @@
 pub mod FirstFound
+pub mod ItemMarks
+pub mod ItemUsers
 pub mod Pending
 pub mod Reading
 pub mod Rows

@@ -6,11 +6,17 @@ mod findings;
 mod fronts;
 mod growing;
 mod journals;
+mod listed;
+mod marking;
 mod marks;
 mod metadata;
 mod reports;
+mod sharing;
+#[cfg(test)]
+mod small_volume;
 mod texts;
 mod volumes;
+mod uses;
 
 pub use findings::Find;
 pub use reports::Report;
