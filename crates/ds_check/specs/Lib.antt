@@ -3,5 +3,6 @@ pub mod Rows
 pub mod Marks
 pub mod Journals
 pub mod Objects
+pub mod Naming
 pub mod Findings
 pub mod Texts

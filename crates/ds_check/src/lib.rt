@@ -6,7 +6,9 @@ mod findings;
 mod growing;
 mod journals;
 mod marks;
+mod naming;
 mod reports;
+mod rooms;
 mod texts;
 
 pub use findings::Find;
