@@ -1,6 +1,8 @@
 pub mod FirstFound
 pub mod ItemMarks
 pub mod ItemUsers
+pub mod MetNames
+pub mod NamedRooms
 pub mod Pending
 pub mod Reading
 pub mod Rows

@@ -3,6 +3,7 @@ pub mod Rows
 pub mod Marks
 pub mod Journals
 pub mod Objects
+pub mod Naming
 pub mod Findings
 pub mod Texts
 pub mod Volumes

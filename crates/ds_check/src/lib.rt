@@ -1,6 +1,7 @@
 //! The checker of images: what is at odds in the sectors of a volume.
 #![tactic(auto)]
 
+mod addresses;
 mod controls;
 mod findings;
 mod fronts;
@@ -10,13 +11,15 @@ mod listed;
 mod marking;
 mod marks;
 mod metadata;
+mod naming;
 mod reports;
+mod rooms;
 mod sharing;
 #[cfg(test)]
 mod small_volume;
 mod texts;
-mod volumes;
 mod uses;
+mod volumes;
 
 pub use findings::Find;
 pub use reports::Report;

@@ -46,14 +46,14 @@ fn copied(alloc: Global, items: &[u32]) -> Result<Vec<u32>, NoMemory>
 
 /// The first numbers of a list; all, where there are fewer.
 #[tactic(auto, using(std::proofs::lemmas::List::take_min))]
-fn first(numbers: &[u32], count: usize) -> &[u32]
+pub(crate) fn first(numbers: &[u32], count: usize) -> &[u32]
     ensures { result.now ≡ take count numbers.now }
 {
     &numbers[..count.min(numbers.len())]
 }
 
 /// The sub-blocks that a directory lists; none of anything else.
-fn subs_of(body: &Option<Body>) -> &[u32]
+pub(crate) fn subs_of(body: &Option<Body>) -> &[u32]
     ensures { result.now ≡ subs_of body.now }
 {
     let Some(body) = body else {
@@ -66,7 +66,7 @@ fn subs_of(body: &Option<Body>) -> &[u32]
 }
 
 /// The pointer blocks that a file lists; none of anything else.
-fn ptrs_of(body: &Option<Body>) -> &[u32]
+pub(crate) fn ptrs_of(body: &Option<Body>) -> &[u32]
     ensures { result.now ≡ ptrs_of body.now }
 {
     let Some(body) = body else {
@@ -78,7 +78,7 @@ fn ptrs_of(body: &Option<Body>) -> &[u32]
     }
 }
 
-fn pointer_blocks(count: u32) -> usize
+pub(crate) fn pointer_blocks(count: u32) -> usize
     ensures { result ≡ pointer_blocks count }
 {
     if count <= 96 {
@@ -123,7 +123,7 @@ fn pointed_by(alloc: Global, parts: &PartsInMemory, ptrs: &[u32]) -> Result<Vec<
     Ok(addresses)
 }
 
-fn addresses_in(parts: &PartsInMemory, number: u32) -> &[u32]
+pub(crate) fn addresses_in(parts: &PartsInMemory, number: u32) -> &[u32]
     ensures { result.now ≡ addresses_in (part_at parts.now.ptrs number) }
 {
     match parts.ptrs().get(number as usize) {
