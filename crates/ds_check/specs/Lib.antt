@@ -5,3 +5,4 @@ pub mod Journals
 pub mod Objects
 pub mod Findings
 pub mod Texts
+pub mod Volumes

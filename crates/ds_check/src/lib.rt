@@ -3,17 +3,20 @@
 
 mod controls;
 mod findings;
+mod fronts;
 mod growing;
 mod journals;
 mod listed;
 mod marking;
 mod marks;
+mod metadata;
 mod reports;
 mod sharing;
 #[cfg(test)]
 mod small_volume;
 mod texts;
 mod uses;
+mod volumes;
 
 pub use findings::Find;
 pub use reports::Report;
