@@ -21,7 +21,8 @@ has-first [] = refl
 has-first (a ∷ us) = let test : nat_lt 0 (suc (length us)) ≡ true = grind (arith, nat_tests) in sym test
 
 -- a list that tells of the numbers below one, and then of that number
-pub told-more : (f : ℕ → Bool) (n : ℕ) (before after : List Bool) (now : Bool) → before ≡ map f (range_with_len 0 n) → now ≡ f n → after ≡ before ++ now ∷ []
+pub told-more : (f : ℕ → Bool) (n : ℕ) (before after : List Bool) (now : Bool)
+    → before ≡ map f (range_with_len 0 n) → now ≡ f n → after ≡ before ++ now ∷ []
     → after ≡ map f (range_with_len 0 (n + 1))
 told-more f n before after now so_far here more =
     more ∙ ap (λ xs. xs ++ now ∷ []) so_far ∙ ap (λ x. map f (range_with_len 0 n) ++ x ∷ []) here
@@ -31,7 +32,8 @@ told-more f n before after now so_far here more =
 told-at : (f : ℕ → Bool) (count n : ℕ) → n < count → bit (map f (range_with_len 0 count)) n ≡ f n
 told-at f count n below = get_or-map-range_with_len f 0 count n n false below (let same : 0 + n ≡ n = omega arith in same)
 
-alike-from : (f g : ℕ → List Find) (a n : ℕ) → ((k : ℕ) → k < a + n → f k ≡ g k) → flat_map f (range_with_len a n) ≡ flat_map g (range_with_len a n)
+alike-from : (f g : ℕ → List Find) (a n : ℕ) → ((k : ℕ) → k < a + n → f k ≡ g k)
+    → flat_map f (range_with_len a n) ≡ flat_map g (range_with_len a n)
 alike-from f g a zero alike = refl
 alike-from f g a (suc n) alike =
     flat_map-cons f a (range_with_len (a + 1) n)

@@ -7,4 +7,5 @@ use Rattle.ds_check.specs.Rows.{find_if, row}
 use Rattle.ds_check.proofs.marking.note_marked.Given as goal
 
 abbrev pub invariant-loop-item : goal.invariant-loop-item
-invariant-loop-item l = l.report ≡ l.initial.report ++ row l.item (λ n. find_if (bit l.marked n && not (bit l.used n)) (finds.Marked l.kind n))
+invariant-loop-item l =
+    l.report ≡ l.initial.report ++ row l.item (λ n. find_if (bit l.marked n && not (bit l.used n)) (finds.Marked l.kind n))

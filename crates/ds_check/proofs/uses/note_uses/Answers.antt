@@ -9,9 +9,12 @@ pub loop-item-preserved : goal.loop-item-preserved
 loop-item-preserved c = record {
   count = c.note_use.ensures.count ∙ c.loop-item.invariant.count;
   knows = λ uses knows. uses-more c.note_use.new.table uses c.args.object c.args.items.now c.loop-item.item-index c.loop-item-test.true
-      (c.note_use.ensures.knows (uses ++ uses_by c.args.object (take c.loop-item.item-index c.args.items.now)) (c.loop-item.invariant.knows uses knows));
+      (c.note_use.ensures.knows (uses ++ uses_by c.args.object (take c.loop-item.item-index c.args.items.now))
+      (c.loop-item.invariant.knows uses knows));
 }
 
 pub returns-clause-knows : goal.returns-clause-knows
 returns-clause-knows c = λ uses knows.
-    subst (λ items. KnowsUsers c.loop-item.table (uses ++ uses_by c.args.object items)) (take_all c.loop-item.item-index c.args.items.now c.loop-item-test.false) (c.loop-item.invariant.knows uses knows)
+    subst (λ items. KnowsUsers c.loop-item.table (uses ++ uses_by c.args.object items))
+    (take_all c.loop-item.item-index c.args.items.now c.loop-item-test.false)
+    (c.loop-item.invariant.knows uses knows)
