@@ -1,5 +1,11 @@
+pub mod EntryRooms
+pub mod LostObjects
 pub mod MetNames
+pub mod NamedOnce
 pub mod NamedRooms
+pub mod NamingParents
+pub mod NoFinds
 pub mod Pending
 pub mod Reading
 pub mod Rows
+pub mod TreeRooms

@@ -4,5 +4,6 @@ pub mod Marks
 pub mod Journals
 pub mod Objects
 pub mod Naming
+pub mod Lost
 pub mod Findings
 pub mod Texts

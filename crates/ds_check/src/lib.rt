@@ -5,6 +5,7 @@ mod controls;
 mod findings;
 mod growing;
 mod journals;
+mod lost;
 mod marks;
 mod naming;
 mod reports;
