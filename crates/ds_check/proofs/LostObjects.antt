@@ -89,10 +89,12 @@ lost-unreached g p count none parents reached len are known =
       rising = IsStrictlyIncreasing-filter (is_unreached p reached) (range_with_len 0 n) (rising-range n);
       exact = λ o. (
         λ has.
-            let is = and-both (is_used (part_at p.bodies o)) (slice_index_or reached o false) (kept-passing (is_unreached p reached) Lost (range_with_len 0 n) o has) in
-            (is.0, λ reaches.
-                let there = (known.exact o (omega (arith, len, count, used-within p o is.0))).1 ((leads o).1 reaches) in
-                false≢true (sym is.1 ∙ there)),
+            let is = and-both (is_used (part_at p.bodies o)) (slice_index_or reached o false) (kept-passing (is_unreached p reached) Lost (range_with_len 0 n) o has) in (
+              is.0,
+              λ reaches.
+                  let there = (known.exact o (omega (arith, len, count, used-within p o is.0))).1 ((leads o).1 reaches) in
+                  false≢true (sym is.1 ∙ there),
+            ),
         λ lost.
             let below : o < n = omega (arith, count, used-within p o lost.0) in
             let isnt : slice_index_or reached o false ≡ false = elim (cases_Bool (slice_index_or reached o false)) [
@@ -101,5 +103,6 @@ lost-unreached g p count none parents reached len are known =
             ] in
             let at : slice_index_or (range_with_len 0 n) o o ≡ o = get_or-range_with_len 0 n o o below ∙ (let same : 0 + o ≡ o = omega arith in same) in
             passing-kept (is_unreached p reached) Lost (range_with_len 0 n) o o (omega (arith, below, length-range_with_len 0 n)) at
-            (both-and (is_used (part_at p.bodies o)) (slice_index_or reached o false) lost.0 isnt));
+            (both-and (is_used (part_at p.bodies o)) (slice_index_or reached o false) lost.0 isnt),
+      );
     }

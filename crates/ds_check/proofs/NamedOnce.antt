@@ -163,10 +163,11 @@ module _ (g : Geom) (p : Parts) (count : length p.bodies ≡ items_of g Fd) (non
       let known : is_dangling p (Some e) ≡ false =
       ap (is_dangling p) (sym (get_or_from_slice_get (rooms_at p dir) r (Some e) None found.1.1))
       ∙ not-dangling dir r there (slice_get_within (rooms_at p dir) r (Some e) found.1.1) in
-      let body : is_body_of e (part_at p.bodies e.key.object) ≡ true = not-false (is_body_of e (part_at p.bodies e.key.object)) known in
-      (there,
-      room-counts (named_in p) (rooms_at p dir) r (Some e) o found.1.1 (gives-object p e body ∙ ap Some found.1.2),
-      ap (λ x. is_used (part_at p.bodies x)) (sym found.1.2) ∙ body-used e (part_at p.bodies e.key.object) body)
+      let body : is_body_of e (part_at p.bodies e.key.object) ≡ true = not-false (is_body_of e (part_at p.bodies e.key.object)) known in (
+        there,
+        room-counts (named_in p) (rooms_at p dir) r (Some e) o found.1.1 (gives-object p e body ∙ ap Some found.1.2),
+        ap (λ x. is_used (part_at p.bodies x)) (sym found.1.2) ∙ body-used e (part_at p.bodies e.key.object) body,
+      )
 
   module _ (parents : List (Option ℕ)) (len : length parents ≡ items_of g Fd) (are : AreNamers p (items_of g Fd) parents) where
     only-parent : (dir o : ℕ) → o ≢ 0 → dir < items_of g Fd → 1 ≤ times o (named_by p dir) → is_used (part_at p.bodies o) ≡ true

@@ -89,10 +89,7 @@ fn note_unreached(
     ensures { OnOk result (report.new ≡ report.old ++ row (items_of geom.now Kind.Fd) (unreached_at parts.now reached.now)) }
 {
     for object in 0..descriptor_count(geom) {
-        report.note_if(
-            is_unreached(parts, reached, object),
-            Find::Lost { object },
-        )?;
+        report.note_if(is_unreached(parts, reached, object), Find::Lost { object })?;
     }
     Ok(())
 }
