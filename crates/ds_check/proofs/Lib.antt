@@ -1,4 +1,5 @@
 pub mod EntryRooms
+pub mod FirstFound
 pub mod LostObjects
 pub mod MetNames
 pub mod NamedOnce
@@ -9,3 +10,4 @@ pub mod Pending
 pub mod Reading
 pub mod Rows
 pub mod TreeRooms
+pub mod VolumeInfo

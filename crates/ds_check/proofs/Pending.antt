@@ -23,11 +23,12 @@ pub pending_idle : (g : Geom) (sectors : List Sector) (number : ℕ) (slot : Opt
 pending_idle g sectors number slot s read some idle x = (
   λ e. absurd cc,
   λ d.
-  let there : slot ≡ Some d.0 = (read d.0).1 d.3 in
-  let same : s ≡ d.0 = cc in
-  let journal : d.0.journal ≡ Idle = subst (λ (t : Slot). t.journal ≡ Idle) same idle in
-  let committed : d.0.journal ≡ Committed d.1 d.2 = d.4 in
-  absurd cc)
+      let there : slot ≡ Some d.0 = (read d.0).1 d.3 in
+      let same : s ≡ d.0 = cc in
+      let journal : d.0.journal ≡ Idle = subst (λ (t : Slot). t.journal ≡ Idle) same idle in
+      let committed : d.0.journal ≡ Committed d.1 d.2 = d.4 in
+      absurd cc,
+)
 
 -- the index of a committed one
 pub pending_committed : (g : Geom) (sectors : List Sector) (number : ℕ) (slot : Option Slot) (s : Slot) (txn count : ℕ) (index : Option Index)
@@ -36,15 +37,16 @@ pub pending_committed : (g : Geom) (sectors : List Sector) (number : ℕ) (slot 
 pending_committed g sectors number slot s txn count index read some committed found x = (
   λ e. (s, txn, count, (read s).0 some, committed, (found x).0 e),
   λ d.
-  let there : slot ≡ Some d.0 = (read d.0).1 d.3 in
-  let same : d.0 ≡ s = cc in
-  let journal : s.journal ≡ Committed d.1 d.2 = subst (λ (t : Slot). t.journal ≡ Committed d.1 d.2) same d.4 in
-  let same_txn : d.1 ≡ txn = cc in
-  let same_count : d.2 ≡ count = cc in
-  let here = subst (λ (t : Slot). IsIndexOf g sectors number t.generation d.1 d.2 x) same d.5 in
-  let of_txn = subst (λ (n : ℕ). IsIndexOf g sectors number s.generation n d.2 x) same_txn here in
-  let of_count = subst (λ (n : ℕ). IsIndexOf g sectors number s.generation txn n x) same_count of_txn in
-  (found x).1 of_count)
+      let there : slot ≡ Some d.0 = (read d.0).1 d.3 in
+      let same : d.0 ≡ s = cc in
+      let journal : s.journal ≡ Committed d.1 d.2 = subst (λ (t : Slot). t.journal ≡ Committed d.1 d.2) same d.4 in
+      let same_txn : d.1 ≡ txn = cc in
+      let same_count : d.2 ≡ count = cc in
+      let here = subst (λ (t : Slot). IsIndexOf g sectors number t.generation d.1 d.2 x) same d.5 in
+      let of_txn = subst (λ (n : ℕ). IsIndexOf g sectors number s.generation n d.2 x) same_txn here in
+      let of_count = subst (λ (n : ℕ). IsIndexOf g sectors number s.generation txn n x) same_count of_txn in
+      (found x).1 of_count,
+)
 
 -- a sector that spells no header has no owner
 pub owner_unread : (g : Geom) (look : Look) (object : ℕ) (r : Option Header) → IsDecoded r (SpellsHeader g look object) → r ≡ None
@@ -57,6 +59,7 @@ pub owner_read : (g : Geom) (look : Look) (object : ℕ) (r : Option Header) (h 
 owner_read g look object r h read some x = (
   λ e. (h, (read h).0 some, let same : h.owner ≡ x = cc in same),
   λ d.
-  let there : r ≡ Some d.0 = (read d.0).1 d.1 in
-  let same : h ≡ d.0 = cc in
-  ap Some (ap (λ (t : Header). t.owner) same ∙ d.2))
+      let there : r ≡ Some d.0 = (read d.0).1 d.1 in
+      let same : h ≡ d.0 = cc in
+      ap Some (ap (λ (t : Header). t.owner) same ∙ d.2),
+)

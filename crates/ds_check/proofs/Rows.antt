@@ -1,8 +1,7 @@
 -- Rows of findings that grow number by number.
-use Rattle.std.proofs.Common.{◌≡◌, ℕ, zero, suc, ◌+◌, List, [], ◌∷◌, ◌++◌, refl, sym, ap, ◌∙◌, append_assoc, arith}
+use Rattle.std.proofs.Common.{◌≡◌, ℕ, zero, suc, ◌+◌, List, [], ◌∷◌, ◌++◌, sym, ap, ◌∙◌, arith}
 use Rattle.std.specs.List.{flat_map, range_with_len}
 use Rattle.std.proofs.lemmas.List.{flat_map_more}
-use Rattle.std.proofs.lemmas.List.FromFn.{map-range_with_len_more}
 use Rattle.ds_check.specs.declared.findings.Find.{Find}
 use Rattle.ds_check.specs.Rows.{row}
 
@@ -16,9 +15,9 @@ below_more a (suc n) =
 pub row_step : (first mid last : List Find) (each : ℕ → List Find) (n : ℕ) → mid ≡ first ++ row n each → last ≡ mid ++ each n → last ≡ first ++ row (n + 1) each
 row_step first mid last each n before now =
     let numbers : range_with_len 0 (n + 1) ≡ range_with_len 0 n ++ n ∷ [] = (
-      let next : n + 1 ≡ suc n = omega arith in
-      let here : 0 + n ≡ n = omega arith in
-      ap (range_with_len 0) next ∙ below_more 0 n ∙ ap (λ k. range_with_len 0 n ++ k ∷ []) here) in
+    let next : n + 1 ≡ suc n = omega arith in
+    let here : 0 + n ≡ n = omega arith in
+    ap (range_with_len 0) next ∙ below_more 0 n ∙ ap (λ k. range_with_len 0 n ++ k ∷ []) here) in
     now ∙ ap (λ xs. xs ++ each n) before ∙ flat_map_more each first (range_with_len 0 n) n ∙ ap (λ xs. first ++ flat_map each xs) (sym numbers)
 
 -- what is found of the same two things is the same

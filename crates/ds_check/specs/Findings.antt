@@ -1,5 +1,5 @@
 -- What a check finds in the bytes of an image: the findings of the first stage that has any.
-use Rattle.std.specs.Prelude.{◌≡◌, ℕ, ◌<◌, ◌↔◌, List, [], ◌∷◌, map, slice_get, Contains, true}
+use Rattle.std.specs.Prelude.{◌≡◌, ℕ, ◌↔◌, List, [], ◌∷◌, map, slice_get, Contains, true}
 use Rattle.std.specs.List.Sorted.{IsStrictlyIncreasing}
 use Rattle.ds_base.specs.declared.geometry.Geom.{Geom}
 use Rattle.ds_base.specs.declared.sectors.Sector.{Sector}
@@ -47,8 +47,14 @@ abbrev pub AreFoundFrom : Geom → List Sector → List Find → List Find → T
 AreFoundFrom g sectors [] finds = AreFoundBehind g sectors finds
 AreFoundFrom g sectors (first ∷ more) finds = finds ≡ first ∷ more
 
--- the findings of a volume with this id, this geometry and these sectors
-pub record AreFindings (g : Geom) (id : List ℕ) (sectors : List Sector) (finds : List Find) : Type 0 where
+-- what is found in front of the logical image: in the first two stages
+pub record AreFoundInFront (g : Geom) (id : List ℕ) (sectors : List Sector) (finds : List Find) : Type 0 where
   pub controls : Controls
   pub reads : ReadsControls g sectors controls
-  pub found : AreFoundFrom g sectors (first_found (marks_stage g id controls ∷ journals_stage g controls ∷ [])) finds
+  pub found : finds ≡ first_found (marks_stage g id controls ∷ journals_stage g controls ∷ [])
+
+-- the findings of a volume with this id, this geometry and these sectors
+pub record AreFindings (g : Geom) (id : List ℕ) (sectors : List Sector) (finds : List Find) : Type 0 where
+  pub front : List Find
+  pub in_front : AreFoundInFront g id sectors front
+  pub found : AreFoundFrom g sectors front finds

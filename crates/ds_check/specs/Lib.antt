@@ -7,3 +7,4 @@ pub mod Naming
 pub mod Lost
 pub mod Findings
 pub mod Texts
+pub mod Volumes

@@ -1,5 +1,5 @@
 -- The stages of the logical image: bodies and bitmaps, addresses, items, entries and names.
-use Rattle.std.specs.Prelude.{◌≡◌, ℕ, ◌+◌, ◌*◌, ◌/◌, ◌%◌, Bool, true, false, not, ◌==◌, ◌&&◌, ◌||◌, nat_le, nat_lt, is_none, if◌then◌else◌, List, [], ◌∷◌, ◌++◌, length, map, take, drop, filter, slice_get, slice_index, slice_index_or, count_by, Option, Some, None, bytes_eq}
+use Rattle.std.specs.Prelude.{ℕ, ◌+◌, ◌*◌, ◌/◌, ◌%◌, Bool, true, false, not, ◌==◌, ◌&&◌, ◌||◌, nat_le, nat_lt, is_none, if◌then◌else◌, List, [], ◌∷◌, ◌++◌, length, map, take, drop, slice_get, slice_index, slice_index_or, count_by, Option, Some, None, bytes_eq}
 use Rattle.std.specs.List.{flat_map, filter_map, list_any, position_or_len, range_with_len}
 use Rattle.ds_base.specs.declared.geometry.Geom.{Geom}
 use Rattle.ds_base.specs.declared.geometry.Kind.{Kind}
@@ -21,12 +21,17 @@ use Rattle.ds_check.specs.Rows.{find_if, row, row_of_kinds}
 
 -- Bodies and bitmaps
 
+-- a bitmap without its form
+abbrev pub bitmap_form : Geom → Parts → Kind → ℕ → List Find
+bitmap_form g p kind n = find_if (is_none (part_at (maps_of p kind) n)) (MetaForm (place_sector g (places.Bitmap kind n)))
+
+-- a body without its form
+abbrev pub body_form : Geom → Parts → ℕ → List Find
+body_form g p o = find_if (is_none (part_at p.bodies o)) (MetaForm (place_sector g (places.Body o)))
+
 -- the bitmaps and bodies without their form, by rising sector
 abbrev pub unread : Geom → Parts → List Find
-unread g p =
-    row_of_kinds (λ kind. row (clusters_of g kind) (λ n.
-        find_if (is_none (part_at (maps_of p kind) n)) (MetaForm (place_sector g (places.Bitmap kind n)))))
-    ++ row (items_of g Fd) (λ o. find_if (is_none (part_at p.bodies o)) (MetaForm (place_sector g (places.Body o))))
+unread g p = row_of_kinds (λ kind. row (clusters_of g kind) (bitmap_form g p kind)) ++ row (items_of g Fd) (body_form g p)
 
 abbrev pub is_dir : Option NodeKind → Bool
 is_dir (Some kinds.Dir) = true
@@ -37,8 +42,12 @@ abbrev pub is_root : Option Body → Bool
 is_root None = false
 is_root (Some b) = is_dir b.kind && (b.birth == 1)
 
+-- a root that is none
+abbrev pub root_finds : Parts → List Find
+root_finds p = find_if (not (is_root (part_at p.bodies 0))) Root
+
 abbrev pub metadata_stage : Geom → Parts → List Find
-metadata_stage g p = unread g p ++ find_if (not (is_root (part_at p.bodies 0))) Root
+metadata_stage g p = unread g p ++ root_finds p
 
 -- Addresses
 
@@ -49,8 +58,9 @@ is_outside items list i = nat_lt i (length list) && nat_le items (slice_index li
 -- the address of a file's block in its pointer block, where that is an item
 abbrev pub pointed_at : Parts → Body → ℕ → Option ℕ
 pointed_at p b i = elim (slice_get (ptrs_by b (Some kinds.File)) (i / 128)) [
-    None ↦ None
-  | Some n ↦ slice_get (addresses_in (part_at p.ptrs n)) (i % 128) ]
+  | None ↦ None
+  | Some n ↦ slice_get (addresses_in (part_at p.ptrs n)) (i % 128)
+]
 
 -- whether the address of a block is there and isn't one of so many items
 abbrev pub is_bad_block : ℕ → Option ℕ → Bool
@@ -60,8 +70,9 @@ is_bad_block items (Some block) = nat_le items block
 -- the addresses past a file's last block in its last pointer block
 abbrev pub past_last : Parts → Body → List ℕ
 past_last p b = elim (slice_get (ptrs_by b (Some kinds.File)) (b.count / 128)) [
-    None ↦ []
-  | Some n ↦ drop (b.count % 128) (addresses_in (part_at p.ptrs n)) ]
+  | None ↦ []
+  | Some n ↦ drop (b.count % 128) (addresses_in (part_at p.ptrs n))
+]
 
 -- the place among them of the first that isn't zero
 abbrev pub first_past : Parts → Body → ℕ
@@ -79,8 +90,8 @@ is_bad_address g p b (Some kinds.Dir) i = is_outside (items_of g Sb) (subs_by b 
 is_bad_address g p b (Some kinds.File) i =
     if nat_le b.count 96 then is_outside (items_of g Fb) (take b.count b.addresses) i
     else is_outside (items_of g Pb) (ptrs_by b (Some kinds.File)) i
-        || (nat_lt i b.count && is_bad_block (items_of g Fb) (pointed_at p b i))
-        || is_first_past p b i
+    || (nat_lt i b.count && is_bad_block (items_of g Fb) (pointed_at p b i))
+    || is_first_past p b i
 
 -- the most addresses that a body has, those in its pointer blocks among them
 abbrev pub most_addresses : ℕ

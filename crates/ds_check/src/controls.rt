@@ -148,11 +148,7 @@ fn volume_of(geom: &Geom, sectors: &[Sector]) -> Option<Uuid>
     decode_fs(&sector)
 }
 
-fn slots_of(
-    alloc: Global,
-    geom: &Geom,
-    sectors: &[Sector],
-) -> Result<Vec<Option<Slot>>, NoMemory>
+fn slots_of(alloc: Global, geom: &Geom, sectors: &[Sector]) -> Result<Vec<Option<Slot>>, NoMemory>
     requires geom { IsGeom geom.now }
     requires size { length sectors.now ≡ total_of geom.now }
     ensures { IfOk result (λ v. IsReading geom.now.slots (SpellsSlot geom.now (slice_get sectors.now)) v.items) }

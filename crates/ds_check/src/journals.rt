@@ -113,7 +113,13 @@ fn note_shared(
     ensures { OnOk result (report.new ≡ report.old ++ shared_targets controls.now first second) }
 {
     if first < second {
-        note_shares(report, first, second, controls.targets(first), controls.targets(second))
+        note_shares(
+            report,
+            first,
+            second,
+            controls.targets(first),
+            controls.targets(second),
+        )
     } else {
         Ok(())
     }

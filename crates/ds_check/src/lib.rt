@@ -3,14 +3,17 @@
 
 mod controls;
 mod findings;
+mod fronts;
 mod growing;
 mod journals;
 mod lost;
 mod marks;
+mod metadata;
 mod naming;
 mod reports;
 mod rooms;
 mod texts;
+mod volumes;
 
 pub use findings::Find;
 pub use reports::Report;

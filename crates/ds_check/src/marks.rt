@@ -71,7 +71,10 @@ fn note_info(
     ensures { OnOk result (report.new ≡ report.old ++ info_form geom.now id controls.now) }
 {
     let sector = sector_of(geom, &Place::FsInfo);
-    report.note_if(!names_volume(id, controls.volume()), Find::SectorForm { sector })
+    report.note_if(
+        !names_volume(id, controls.volume()),
+        Find::SectorForm { sector },
+    )
 }
 
 fn names_volume(id: Uuid, named: Option<Uuid>) -> bool
@@ -83,11 +86,7 @@ fn names_volume(id: Uuid, named: Option<Uuid>) -> bool
     }
 }
 
-fn note_slots(
-    report: &mut Report,
-    geom: &Geom,
-    controls: &ControlsInMemory,
-) -> Result<(), NoMemory>
+fn note_slots(report: &mut Report, geom: &Geom, controls: &ControlsInMemory) -> Result<(), NoMemory>
     requires { IsGeom geom.now }
     ensures { OnOk result (report.new ≡ report.old ++ row geom.now.slots (slot_form geom.now controls.now)) }
 {

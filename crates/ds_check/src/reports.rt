@@ -1,5 +1,5 @@
 //! Reports of a check.
-ghost use Rattle.std.specs.Prelude.{◌≡◌, [], ◌∷◌, ◌++◌, OnOk, IfOk};
+ghost use Rattle.std.specs.Prelude.{◌≡◌, ◌↔◌, [], ◌∷◌, ◌++◌, OnOk, IfOk, IsTrue, length};
 ghost use Rattle.std.specs.List.{flat_map};
 ghost use Rattle.ds_check.specs.Rows.{find_if};
 ghost use Rattle.ds_check.specs.Texts.{report_text, find_line};
@@ -56,6 +56,12 @@ impl Report {
         &self.findings
     }
 
+    pub(crate) fn is_empty(&self) -> bool
+        ensures { IsTrue result ↔ (length self.now ≡ 0) }
+    {
+        self.findings.is_empty()
+    }
+
     /// The text of the report: a line for each finding, or the one line `clean`.
     pub fn text(&self) -> Result<Vec<u8>, NoMemory>
         ensures { IfOk result (λ text. text.items ≡ report_text self.now) }
@@ -110,11 +116,9 @@ mod tests {
             first: 1,
             second: 2,
         })?;
-        report.note(Find::Dangling {
-            object: 0,
-            room: 5,
-        })?;
-        let lines = b"sector 1 form\njournals 0 3 share 147\nroot\nfb 0 twice 1 2\nobject 0 room 5 dangling\n";
+        report.note(Find::Dangling { object: 0, room: 5 })?;
+        let lines =
+            b"sector 1 form\njournals 0 3 share 147\nroot\nfb 0 twice 1 2\nobject 0 room 5 dangling\n";
         assert_eq!(rt; report.text()?.as_slice(), lines.as_slice());
         assert_eq!(rt; report.findings().len(), 5);
         Ok(())

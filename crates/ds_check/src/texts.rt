@@ -12,10 +12,7 @@ pub(crate) fn write_find(text: &mut Growing, find: &Find) -> Result<(), NoMemory
 {
     match *find {
         Find::SectorForm { sector } | Find::MetaForm { sector } => write_numbered(
-            text,
-            b"sector ",
-            sector,
-            b" form",
+            text, b"sector ", sector, b" form",
         ),
         Find::HeaderOwner { object } => write_numbered(text, b"object ", object, b" owner"),
         Find::SlotBreaker { slot } => write_numbered(text, b"slot ", slot, b" breaker"),

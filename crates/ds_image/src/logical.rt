@@ -39,7 +39,12 @@ pub fn overlay<S: Store>(alloc: Global, geom: &Geom, store: &S) -> Result<Image,
 }
 
 /// The sectors of a device in front of the file blocks, which begin at `end`.
-fn front<S: Store>(alloc: Global, geom: &Geom, store: &S, end: SectorNo) -> Result<Vec<Sector>, ImageFault>
+fn front<S: Store>(
+    alloc: Global,
+    geom: &Geom,
+    store: &S,
+    end: SectorNo,
+) -> Result<Vec<Sector>, ImageFault>
     requires size { length (S.sectors store.now) ≡ total_of geom.now }
     requires end { end ≡ blocks_at geom.now }
     ensures front { IfOk result (λ sectors. sectors.items ≡ front_of geom.now (S.sectors store.now)) }
@@ -117,7 +122,13 @@ fn pending_index<S: Store>(geom: &Geom, store: &S, number: SlotNo) -> Option<Ind
 }
 
 /// Lays over the sectors, at these targets, the sectors of a slot's journal.
-fn lay_journal<S: Store>(geom: &Geom, store: &S, slot: SlotNo, targets: &[u32], sectors: &mut [Sector])
+fn lay_journal<S: Store>(
+    geom: &Geom,
+    store: &S,
+    slot: SlotNo,
+    targets: &[u32],
+    sectors: &mut [Sector],
+)
     requires geom { IsGeom geom.now }
     requires size { length (S.sectors store.now) ≡ total_of geom.now }
     requires inside { slot < geom.now.slots }

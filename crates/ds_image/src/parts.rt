@@ -117,7 +117,8 @@ fn maps_of(alloc: Global, image: &Image, kind: Kind) -> Result<Vec<Option<Bits>>
     let count = clusters_of_kind(image.geom(), kind);
     let mut maps = Vec::with_capacity(alloc, usize::from(count)).map_err(|_| NoMemory)?;
     for cluster in 0..count {
-        maps.push(bits_of(image, kind, cluster)).map_err(|_| NoMemory)?;
+        maps.push(bits_of(image, kind, cluster))
+            .map_err(|_| NoMemory)?;
     }
     Ok(maps)
 }
