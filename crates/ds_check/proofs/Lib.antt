@@ -1,9 +1,15 @@
+pub mod EntryRooms
 pub mod FirstFound
 pub mod ItemMarks
 pub mod ItemUsers
+pub mod LostObjects
 pub mod MetNames
+pub mod NamedOnce
 pub mod NamedRooms
+pub mod NamingParents
+pub mod NoFinds
 pub mod Pending
 pub mod Reading
 pub mod Rows
+pub mod TreeRooms
 pub mod VolumeInfo

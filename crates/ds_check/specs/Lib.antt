@@ -4,6 +4,7 @@ pub mod Marks
 pub mod Journals
 pub mod Objects
 pub mod Naming
+pub mod Lost
 pub mod Findings
 pub mod Texts
 pub mod Volumes

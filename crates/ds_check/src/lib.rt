@@ -8,6 +8,7 @@ mod fronts;
 mod growing;
 mod journals;
 mod listed;
+mod lost;
 mod marking;
 mod marks;
 mod metadata;

@@ -310,7 +310,7 @@ fn count_room(counts: &mut NameCounts, count: u32, parts: &PartsInMemory, room: 
 }
 
 /// The object that a room names, where the object is there.
-fn named_in(parts: &PartsInMemory, room: &Option<Entry>) -> Option<u32>
+pub(crate) fn named_in(parts: &PartsInMemory, room: &Option<Entry>) -> Option<u32>
     ensures { result ≡ named_in parts.now room.now }
 {
     match room {
