@@ -2,6 +2,7 @@ pub mod EntryRooms
 pub mod FirstFound
 pub mod ItemMarks
 pub mod ItemUsers
+pub mod LastAddresses
 pub mod LostObjects
 pub mod MetNames
 pub mod NamedOnce

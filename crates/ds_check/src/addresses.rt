@@ -1,10 +1,11 @@
 //! The fourth stage of a check: addresses and rooms.
-ghost use Rattle.std.specs.Prelude.{◌≡◌, ◌+◌, ◌≤◌, ◌++◌, ◌==◌, ◌&&◌, nat_lt, not, min, is_none, length, drop, slice_get, Some, OnOk};
+ghost use Rattle.std.specs.Prelude.{◌≡◌, ◌+◌, ◌<◌, ◌≤◌, ◌++◌, ◌==◌, ◌&&◌, nat_lt, not, min, is_none, length, drop, slice_get, Some, OnOk};
 ghost use Rattle.std.specs.List.{position_or_len};
 ghost use Rattle.ds_base.specs.Geometry.{items_of};
 ghost use Rattle.ds_base.specs.declared.names.NodeKind.TheVariants as kinds;
 ghost use Rattle.ds_image.specs.Objects.{ptrs_by, subs_by};
 ghost use Rattle.ds_image.specs.Parts.{part_at};
+ghost use Rattle.ds_check.specs.Addresses.{address_at, room_at};
 ghost use Rattle.ds_check.specs.Objects.{
   is_outside,
   pointed_at,
@@ -85,15 +86,27 @@ fn note_body(
     ensures { OnOk result (report.new ≡ report.old ++ address_finds geom.now parts.now object (Some body.now)) }
 {
     for index in 0..address_end(parts, body) {
-        report.note_if(
-            is_bad_address(geom, parts, body, index),
-            Find::Address { object, index },
-        )?;
+        note_address(report, geom, parts, object, body, index)?;
     }
     Ok(())
 }
 
-/// An index behind which nothing is wrong with an address: that past the last pointer block, or past the last address.
+fn note_address(
+    report: &mut Report,
+    geom: &Geom,
+    parts: &PartsInMemory,
+    object: ObjNo,
+    body: &Body,
+    index: u32,
+) -> Result<(), NoMemory>
+    ensures { OnOk result (report.new ≡ report.old ++ address_at geom.now parts.now object body.now index) }
+{
+    let is_bad = is_bad_address(geom, parts, body, index);
+    report.note_if(is_bad, Find::Address { object, index })
+}
+
+/// The end of the addresses of a body with which something may be wrong.
+#[tactic(auto, unfolding(crate::specs::Objects::most_addresses))]
 fn address_end(parts: &PartsInMemory, body: &Body) -> u32
     ensures { result ≡ min (body.now.count + length (past_last parts.now body.now)) most_addresses }
 {
@@ -106,7 +119,12 @@ fn is_bad_address(geom: &Geom, parts: &PartsInMemory, body: &Body, index: u32) -
 {
     match body.kind {
         None => false,
-        Some(NodeKind::Dir) => is_outside(geom, Kind::Sb, first(&body.addresses, body.count as usize), index),
+        Some(NodeKind::Dir) => is_outside(
+            geom,
+            Kind::Sb,
+            first(&body.addresses, body.count as usize),
+            index,
+        ),
         Some(NodeKind::File) => is_bad_in_file(geom, parts, body, index),
     }
 }
@@ -116,7 +134,12 @@ fn is_bad_in_file(geom: &Geom, parts: &PartsInMemory, body: &Body, index: u32) -
     ensures { result ≡ is_bad_address geom.now parts.now body.now (Some kinds.File) index }
 {
     if body.count <= 96 {
-        is_outside(geom, Kind::Fb, first(&body.addresses, body.count as usize), index)
+        is_outside(
+            geom,
+            Kind::Fb,
+            first(&body.addresses, body.count as usize),
+            index,
+        )
     } else {
         is_outside(geom, Kind::Pb, pointers(body), index)
             || (index < body.count && is_bad_block(geom, pointed_at(parts, body, index)))
@@ -154,11 +177,11 @@ fn pointed_at(parts: &PartsInMemory, body: &Body, index: u32) -> Option<u32>
 {
     match pointers(body).get((index / 128) as usize) {
         None => None,
-        Some(number) => address_at(addresses_in(parts, *number), (index % 128) as usize),
+        Some(number) => number_at(addresses_in(parts, *number), (index % 128) as usize),
     }
 }
 
-fn address_at(addresses: &[u32], index: usize) -> Option<u32>
+fn number_at(addresses: &[u32], index: usize) -> Option<u32>
     ensures { result ≡ slice_get addresses.now index }
 {
     match addresses.get(index) {
@@ -230,13 +253,26 @@ fn note_rooms(
     ensures { OnOk result (report.new ≡ report.old ++ room_finds geom.now parts.now object subs.now) }
 {
     for i in 0..subs.len() {
-        let room = 4 * i as u32;
-        report.note_if(
-            is_unformed(geom, parts, subs[i]),
-            Find::Room { object, room },
-        )?;
+        note_room(report, geom, parts, object, subs, i)?;
     }
     Ok(())
+}
+
+fn note_room(
+    report: &mut Report,
+    geom: &Geom,
+    parts: &PartsInMemory,
+    object: ObjNo,
+    subs: &[u32],
+    i: usize,
+) -> Result<(), NoMemory>
+    requires few { length subs.now ≤ 96 }
+    requires inside { i < length subs.now }
+    ensures { OnOk result (report.new ≡ report.old ++ room_at geom.now parts.now object subs.now i) }
+{
+    let is_bad = is_unformed(geom, parts, subs[i]);
+    let room = 4 * i as u32;
+    report.note_if(is_bad, Find::Room { object, room })
 }
 
 /// Whether a sub-block is an item without its form.
