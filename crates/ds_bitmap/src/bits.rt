@@ -107,6 +107,13 @@ impl Bits {
         }
     }
 
+    /// For each item of the cluster, whether it is used.
+    pub fn used(&self) -> &[bool]
+        ensures { result.now ≡ self.now.used }
+    {
+        &self.used[..usize::from(self.items)]
+    }
+
     /// The least item that is not used; `None` where all are.
     pub fn first_free(&self) -> Option<u16>
         ensures { MatchOption result (AllUsed self.now.used) (λ item. IsFirstFree self.now.used item) }

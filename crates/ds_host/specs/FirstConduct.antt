@@ -1,8 +1,7 @@
 -- What the first host does.
-use Rattle.std.specs.Prelude.{◌≡◌, ◌≢◌, ℕ, Bool, true, false, List, [], ◌∷◌, Option, Some, None, is_some, IsTrue, MatchOption}
+use Rattle.std.specs.Prelude.{◌≡◌, ℕ, true, List, Option, Some, None, MatchOption}
 use Rattle.ds_base.specs.declared.sectors.Sector.{Sector}
 use Rattle.ds_base.specs.declared.names.Key.{Key}
-use Rattle.ds_base.specs.declared.commands.Command.{Command}
 use Rattle.ds_base.specs.declared.commands.Command.TheVariants.{Read, Swap}
 use Rattle.ds_base.specs.declared.commands.Response.{Response}
 use Rattle.ds_base.specs.declared.commands.Response.TheVariants.{Got, Done, Miscompare}
@@ -26,7 +25,7 @@ use Rattle.ds_host.specs.declared.first_host.RootCall.TheVariants.{Create, Looku
 use Rattle.ds_host.specs.declared.first_host.Stage.{Stage}
 use Rattle.ds_host.specs.declared.first_host.Stage.TheVariants.{Rest, Reading, Filling}
 use Rattle.ds_host.specs.FirstStates.{FirstState}
-use Rattle.ds_host.specs.Rooms.{Rooms, entry_named, with_entry, has_free_room, next_key, file_entry}
+use Rattle.ds_host.specs.Rooms.{entry_named, with_entry, has_free_room, next_key, file_entry}
 
 -- a sector spells a sub-block
 abbrev pub SpellsRooms : Sector → SubBlock → Type 0

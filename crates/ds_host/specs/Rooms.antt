@@ -1,5 +1,5 @@
 -- The rooms of a directory, as a host that looks for a name or makes an entry sees them.
-use Rattle.std.specs.Prelude.{ℕ, ◌+◌, Bool, true, false, List, [], ◌∷◌, length, Option, Some, None, is_some}
+use Rattle.std.specs.Prelude.{ℕ, ◌+◌, Bool, true, false, List, [], ◌∷◌, length, Option, Some, None}
 use Rattle.std.specs.List.{filter_map, find}
 use Rattle.std.specs.Str.{bytes_eq}
 use Rattle.ds_base.specs.declared.names.Key.{Key}

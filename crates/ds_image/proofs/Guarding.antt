@@ -1,5 +1,5 @@
 -- The guard of a sector is found by looking at the descriptors one after another.
-use Rattle.std.proofs.Common.{◌≡◌, ℕ, ◌<◌, ◌≤◌, ◌==◌, Bool, true, false, nat_lt, [], length, get_or, Option, Some, None, refl, sym, ap, subst, ◌∙◌, arith}
+use Rattle.std.proofs.Common.{◌≡◌, ℕ, ◌<◌, ◌≤◌, ◌==◌, Bool, true, false, nat_lt, [], length, get_or, Option, Some, None, IsSome, is_some, ◌↔◌, refl, sym, ap, subst, ◌∙◌, arith}
 use Rattle.std.proofs.lemmas.Bool.Decides.{nat_tests}
 use Rattle.std.proofs.lemmas.List.{length-map, get_or-map}
 use Rattle.std.proofs.lemmas.List.Sums.{position_or_len_is}
@@ -11,10 +11,12 @@ use Rattle.ds_base.specs.declared.geometry.Kind.TheVariants.{Fd}
 use Rattle.ds_base.specs.declared.names.NodeKind.{NodeKind}
 use Rattle.ds_layout.specs.Places.{IsPlace, place_sector}
 use Rattle.ds_layout.specs.declared.places.Place.{Place}
+use Rattle.ds_layout.specs.declared.places.Place.TheVariants as places
 use Rattle.ds_layout.proofs.SamePlace.{same_place}
 use Rattle.ds_image.specs.Guards.{least_lister, lister_or, guard_of, IsGuard}
 use Rattle.ds_image.specs.Listers.{listed_of, listed_lists}
 use Rattle.ds_image.specs.Looks.{Look, AreBlocks}
+use Rattle.ds_image.specs.Metadata.{IsMetadata, is_metadata}
 use Rattle.ds_image.specs.Parts.{Parts, part_at}
 use Rattle.ds_image.specs.Readings.{Reads}
 use Rattle.ds_image.proofs.Readings.{parts_there}
@@ -57,7 +59,8 @@ lister_none g look kind p n cluster reads none =
     rw (least, past) refl
 
 -- the guard of a place is that of its sector
-pub guard_exact : (g : Geom) (look : Look) (place : Place) (at : ℕ) (r : Option ℕ) → IsGeom g → AreBlocks look → IsPlace g place → place_sector g place ≡ at
+pub guard_exact : (g : Geom) (look : Look) (place : Place) (at : ℕ) (r : Option ℕ) → IsGeom g → AreBlocks look → IsPlace g place
+    → place_sector g place ≡ at
     → ((p : Parts) → Reads g look p → r ≡ guard_of g p place) → IsDecoded r (IsGuard g look at)
 guard_exact g look place at r is blocks inside here answer object =
     let there = parts_there g look is blocks in (
@@ -72,4 +75,30 @@ guard_exact g look place at r is blocks inside here answer object =
       λ guard.
           let same : guard.place ≡ place = same_place g guard.place place is guard.is_place inside (guard.here ∙ sym here) in
           answer guard.parts guard.reads ∙ subst (λ (q : Place). guard_of g guard.parts q ≡ Some object) same guard.guards,
+    )
+
+-- bodies, bitmaps, sub-blocks and pointer blocks have a guard, and no other place has one
+guarded_places : (g : Geom) (p : Parts) (place : Place) → is_some (guard_of g p place) ≡ is_metadata place
+guarded_places g p places.VolInfo = refl
+guarded_places g p places.FsInfo = refl
+guarded_places g p (places.Slot slot) = refl
+guarded_places g p (places.Journal slot index) = refl
+guarded_places g p (places.Header object) = refl
+guarded_places g p (places.Bitmap kind cluster) = refl
+guarded_places g p (places.Body object) = refl
+guarded_places g p (places.SubBlock n) = refl
+guarded_places g p (places.PtrBlock n) = refl
+guarded_places g p (places.Block block index) = refl
+
+-- so a sector has a guard exactly where it is one of these
+pub guard_there : (g : Geom) (look : Look) (place : Place) (at : ℕ) (r : Option ℕ) → IsGeom g → AreBlocks look → IsPlace g place
+    → place_sector g place ≡ at
+    → ((p : Parts) → Reads g look p → r ≡ guard_of g p place) → IsSome r ↔ IsMetadata g at
+guard_there g look place at r is blocks inside here answer =
+    let there = parts_there g look is blocks in
+    let same : is_some r ≡ is_metadata place = ap is_some (answer there.0 there.1) ∙ guarded_places g there.0 place in (
+      λ some. record { place = place; is_place = inside; here = here; kept = sym same ∙ some },
+      λ m.
+          let one : m.place ≡ place = same_place g m.place place is m.is_place inside (m.here ∙ sym here) in
+          same ∙ ap is_metadata (sym one) ∙ m.kept,
     )

@@ -29,7 +29,8 @@ use Rattle.ds_image.proofs.BadSectors.{bad_index}
 use Rattle.ds_image.proofs.LaidOver.{slice_get-set, length-laid_over, laid_over-append}
 
 -- what is at a place of a list with one more item
-pub got_push : {X : Type 0} (P : ℕ → X → Type 0) (xs : List X) (x : X) → ((k : ℕ) (y : X) → slice_get xs k ≡ Some y → P k y) → P (length xs) x → (k : ℕ) (y : X) → slice_get (xs ++ x ∷ []) k ≡ Some y → P k y
+pub got_push : {X : Type 0} (P : ℕ → X → Type 0) (xs : List X) (x : X) → ((k : ℕ) (y : X) → slice_get xs k ≡ Some y → P k y)
+    → P (length xs) x → (k : ℕ) (y : X) → slice_get (xs ++ x ∷ []) k ≡ Some y → P k y
 got_push P xs x before last k y got =
     let is : get_or (xs ++ x ∷ []) k y ≡ y = get_or_from_slice_get (xs ++ x ∷ []) k y y got in
     let small : k < length (xs ++ x ∷ []) = slice_get_within (xs ++ x ∷ []) k y got in
@@ -108,7 +109,8 @@ committed_pending g sectors number x pairs is are = record {
 }
 
 -- what the pairs are may be said in another way
-pub lays_as : (Are Then : List Pair → Type 0) (before after : List Sector) → ((pairs : List Pair) → Are pairs → Then pairs) → Lays Are before after → Lays Then before after
+pub lays_as : (Are Then : List Pair → Type 0) (before after : List Sector) → ((pairs : List Pair) → Are pairs → Then pairs)
+    → Lays Are before after → Lays Then before after
 lays_as Are Then before after to lays = record { pairs = lays.pairs; are = to lays.pairs lays.are; laid = lays.laid; blocks = lays.blocks }
 
 -- the pairs of one more slot
@@ -152,7 +154,8 @@ pub items_after : {X : Type 0} (n : ℕ) (new old : List X) → length new ≡ n
 items_after n new old e = take_at new (drop (length new) old) n e
 
 -- one more sector is copied
-pub front_more : (sectors xs : List Sector) (at : ℕ) (s : Sector) → xs ≡ take at sectors → slice_get sectors at ≡ Some s → xs ++ s ∷ [] ≡ take (at + 1) sectors
+pub front_more : (sectors xs : List Sector) (at : ℕ) (s : Sector) → xs ≡ take at sectors → slice_get sectors at ≡ Some s
+    → xs ++ s ∷ [] ≡ take (at + 1) sectors
 front_more sectors xs at s copied got =
     ap (λ ys. ys ++ s ∷ []) copied
     ∙ ap (λ t. take at sectors ++ t ∷ []) (sym (get_or_from_slice_get sectors at s s got))

@@ -24,8 +24,11 @@ pub adds-one : (bits : List Bool) (y : ℕ) → y < length bits → AddsMarks bi
 adds-one bits y within = record {
   count = length-set bits y true;
   marks = λ x. elim (cases_eq x y) [
-    | inl same ↦ (λ _. inr (Contains-from_at (y ∷ []) 0 x (ap Some (sym same))), λ _. ap (bit (set bits y true)) same
-        ∙ get_or-set_same bits y true false within)
+    | inl same ↦ (
+      λ _. inr (Contains-from_at (y ∷ []) 0 x (ap Some (sym same))),
+      λ _. ap (bit (set bits y true)) same
+          ∙ get_or-set_same bits y true false within,
+    )
     | inr apart ↦ (
       λ marked. inl (sym (get_or-set_other bits y x true false apart) ∙ marked),
       λ either. elim either [
@@ -88,8 +91,11 @@ clears-joined a b c xs ys first second = record {
         let late = (second.marks x).0 marked in
         let early = (first.marks x).0 late.0 in
         (early.0, λ held. elim (Contains-append_cases xs ys x held) [ inl front ↦ early.1 front | inr back ↦ late.1 back ]),
-    λ both. (second.marks x).1 ((first.marks x).1 (both.0, λ held. both.1 (Contains-append_left xs ys x held)), λ held. both.1
-        (Contains-append_right xs ys x held)),
+    λ both. (second.marks x).1 (
+      (first.marks x).1 (both.0, λ held. both.1 (Contains-append_left xs ys x held)),
+      λ held. both.1
+          (Contains-append_right xs ys x held),
+    ),
   );
 }
 

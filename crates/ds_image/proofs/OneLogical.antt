@@ -32,7 +32,8 @@ index_once g sectors slot generation txn count x y a b =
     index_same x y a.spelled.0 b.spelled.0
     (bytes_once (slice_get sectors) (place_sector g (places.Journal slot 31)) (index_bytes x) (index_bytes y) a.spelled.1 b.spelled.1)
 
-pairs_once : (g : Geom) (sectors : List Sector) (slot : ℕ) (targets : List ℕ) (ps qs : List Pair) → AreJournalled g sectors slot targets ps → AreJournalled g sectors slot targets qs → ps ≡ qs
+pairs_once : (g : Geom) (sectors : List Sector) (slot : ℕ) (targets : List ℕ) (ps qs : List Pair)
+    → AreJournalled g sectors slot targets ps → AreJournalled g sectors slot targets qs → ps ≡ qs
 pairs_once g sectors slot targets ps qs a b =
     let numbers : map (λ (p : Pair). p.0) ps ≡ map (λ (p : Pair). p.0) qs = a.have_targets ∙ sym b.have_targets in
     let count : length ps ≡ length qs = sym (length-map ps (λ (p : Pair). p.0)) ∙ ap length numbers ∙ length-map qs (λ (p : Pair). p.0) in
@@ -46,18 +47,21 @@ pairs_once g sectors slot targets ps qs a b =
     same_Some p.1 q.1 (sym (a.have_sectors k p (slice_get-get_or ps k d l)) ∙ b.have_sectors k q (slice_get-get_or qs k d (omega (arith, l, count)))) in
     λ i. (number i, sector i))
 
-of_journal_once : (g : Geom) (sectors : List Sector) (slot generation : ℕ) (j : Journal) (ps qs : List Pair) → AreOfJournal g sectors slot generation j ps → AreOfJournal g sectors slot generation j qs → ps ≡ qs
+of_journal_once : (g : Geom) (sectors : List Sector) (slot generation : ℕ) (j : Journal) (ps qs : List Pair)
+    → AreOfJournal g sectors slot generation j ps → AreOfJournal g sectors slot generation j qs → ps ≡ qs
 of_journal_once g sectors slot generation Idle ps qs a b = a ∙ sym b
 of_journal_once g sectors slot generation (Committed txn count) ps qs a b =
     let same : a.0 ≡ b.0 = index_once g sectors slot generation txn count a.0 b.0 a.1 b.1 in
     pairs_once g sectors slot b.0.targets.items ps qs (subst (λ (x : Index). AreJournalled g sectors slot x.targets.items ps) same a.2) b.2
 
-of_slot_once : (g : Geom) (sectors : List Sector) (number : ℕ) (r : Option Slot) (ps qs : List Pair) → AreOfSlot g sectors number r ps → AreOfSlot g sectors number r qs → ps ≡ qs
+of_slot_once : (g : Geom) (sectors : List Sector) (number : ℕ) (r : Option Slot) (ps qs : List Pair) → AreOfSlot g sectors number r ps
+    → AreOfSlot g sectors number r qs → ps ≡ qs
 of_slot_once g sectors number None ps qs a b = a ∙ sym b
 of_slot_once g sectors number (Some s) ps qs a b = of_journal_once g sectors number s.generation s.journal ps qs a b
 
 -- the pending pairs of a slot are determined
-pub pending_once : (g : Geom) (sectors : List Sector) (number : ℕ) (ps qs : List Pair) → ArePending g sectors number ps → ArePending g sectors number qs → ps ≡ qs
+pub pending_once : (g : Geom) (sectors : List Sector) (number : ℕ) (ps qs : List Pair) → ArePending g sectors number ps
+    → ArePending g sectors number qs → ps ≡ qs
 pending_once g sectors number ps qs a b =
     let same : a.slot ≡ b.slot = decoded_same a.slot b.slot (SpellsSlot g (slice_get sectors) number) a.decoded b.decoded in
     of_slot_once g sectors number b.slot ps qs (subst (λ (r : Option Slot). AreOfSlot g sectors number r ps) same a.of_slot) b.of_slot

@@ -1,14 +1,14 @@
 -- Lists own the marked items exactly where no item has two users, and those that have one are marked.
-use Rattle.std.proofs.Common.{◌≡◌, ◌≢◌, ℕ, zero, suc, ◌+◌, ◌<◌, ◌≤◌, ◌⊎◌, ◌↔◌, cond, Bool, true, false, eqb, List, [], ◌∷◌, ◌++◌, length, map, filter, get_or, inl, inr, refl, sym, ap, ◌∙◌, subst, arith}
+use Rattle.std.proofs.Common.{◌≡◌, ◌≢◌, ℕ, zero, suc, ◌+◌, ◌≤◌, cond, Bool, true, false, eqb, List, [], ◌∷◌, ◌++◌, length, map, filter, inl, inr, refl, sym, ap, ◌∙◌, subst, arith}
 use Rattle.std.specs.Prelude.{Some, slice_get, count_by}
 use Rattle.std.specs.List.{sum_by, flat_map, range_with_len}
-use Rattle.std.proofs.lemmas.Bool.{cases_eq, cases_lt, cases_Bool, eq-eqb, eqb-true, false≢true}
+use Rattle.std.proofs.lemmas.Bool.{cases_eq, cases_lt, cases_Bool, eq-eqb, eqb-true}
 use Rattle.std.proofs.lemmas.List.{map-append, length-append}
 use Rattle.std.proofs.lemmas.List.Elements.{filter-append}
 use Rattle.std.proofs.lemmas.List.Folds.{fold-map}
 use Rattle.std.proofs.lemmas.List.FromFn.{fill_by_all}
 use Rattle.std.proofs.lemmas.List.Sums.{sum_by-cons}
-use Rattle.ds_image.specs.Owns.{list_of, IsAt, bit, Owns}
+use Rattle.ds_image.specs.Owns.{list_of, IsAt, Owns}
 use Rattle.ds_image.specs.Users.{users, uses_by, uses_of, AreUsedOnce}
 
 -- how often an item stands in a list
@@ -89,13 +89,13 @@ placed-twice : (x : ℕ) (l : List ℕ) → 2 ≤ times x l → (i : ℕ) × ((j
 placed-twice x [] some = absurd (omega (arith, some))
 placed-twice x (y ∷ ys) some = elim (cases_eq y x) [
   | inl same ↦
-    let rest = placed x ys (omega (arith, some, times-here x y ys same)) in
-    let apart : 0 ≢ suc rest.0 = λ e. absurd (omega (arith, e)) in
-    (0, (suc rest.0, apart, ap Some same, rest.1))
+      let rest = placed x ys (omega (arith, some, times-here x y ys same)) in
+      let apart : 0 ≢ suc rest.0 = λ e. absurd (omega (arith, e)) in
+      (0, (suc rest.0, apart, ap Some same, rest.1))
   | inr apart ↦
-    let rest = placed-twice x ys (omega (arith, some, times-cons x y ys, ap one (not-eqb y x apart))) in
-    let differ : suc rest.0 ≢ suc rest.1.0 = λ e. rest.1.1 (let less : rest.0 ≡ rest.1.0 = omega (arith, e) in less) in
-    (suc rest.0, (suc rest.1.0, differ, rest.1.2, rest.1.3))
+      let rest = placed-twice x ys (omega (arith, some, times-cons x y ys, ap one (not-eqb y x apart))) in
+      let differ : suc rest.0 ≢ suc rest.1.0 = λ e. rest.1.1 (let less : rest.0 ≡ rest.1.0 = omega (arith, e) in less) in
+      (suc rest.0, (suc rest.1.0, differ, rest.1.2, rest.1.3))
 ]
 
 -- Lists and counts
@@ -130,36 +130,36 @@ found-twice : (x : ℕ) (lists : List (List ℕ)) → 2 ≤ sum_by (times x) lis
 found-twice x [] some = absurd (omega (arith, some))
 found-twice x (l ∷ ls) some = elim (cases_lt 1 (times x l)) [
   | inl two ↦
-    let here = placed-twice x l (omega (arith, two)) in
-    (0, (here.0, (0, (here.1.0, here.1.2, here.1.3, λ same. here.1.1 same.1))))
+      let here = placed-twice x l (omega (arith, two)) in
+      (0, (here.0, (0, (here.1.0, here.1.2, here.1.3, λ same. here.1.1 same.1))))
   | inr few ↦ elim (cases_lt 0 (times x l)) [
     | inl once ↦
-      let here = placed x l (omega (arith, once)) in
-      let there = found x ls (omega (arith, some, few, sum_by-cons (times x) l ls)) in
-      (0, (here.0, (suc there.0, (there.1.0, here.1, there.1.1, λ same. absurd (omega (arith, same.0))))))
+        let here = placed x l (omega (arith, once)) in
+        let there = found x ls (omega (arith, some, few, sum_by-cons (times x) l ls)) in
+        (0, (here.0, (suc there.0, (there.1.0, here.1, there.1.1, λ same. absurd (omega (arith, same.0))))))
     | inr none ↦
-      let rest = found-twice x ls (omega (arith, some, none, sum_by-cons (times x) l ls)) in
-      let p = rest.1.1.0 in
-      let differ : ((suc rest.0 ≡ suc p) × (rest.1.0 ≡ rest.1.1.1.0) → ⊥) =
-      λ same. rest.1.1.1.3 (let less : rest.0 ≡ p = omega (arith, same.0) in (less, same.1)) in
-      (suc rest.0, (rest.1.0, (suc p, (rest.1.1.1.0, rest.1.1.1.1, rest.1.1.1.2, differ))))
+        let rest = found-twice x ls (omega (arith, some, none, sum_by-cons (times x) l ls)) in
+        let p = rest.1.1.0 in
+        let differ : ((suc rest.0 ≡ suc p) × (rest.1.0 ≡ rest.1.1.1.0) → ⊥) =
+        λ same. rest.1.1.1.3 (let less : rest.0 ≡ p = omega (arith, same.0) in (less, same.1)) in
+        (suc rest.0, (rest.1.0, (suc p, (rest.1.1.1.0, rest.1.1.1.1, rest.1.1.1.2, differ))))
   ]
 ]
 
 pub owns-from_users : (lists : List (List ℕ)) (bits : List Bool) → AreUsedOnce lists bits → Owns lists bits
 owns-from_users lists bits once = record {
   once = λ o i p j x at there.
-    let few = once.few x in
-    let count = users-count lists x in
-    elim (cases_eq o p) [
-      | inr apart ↦ absurd (omega (arith, few, count, among-two x lists o i p j at there apart))
-      | inl same ↦ elim (cases_eq i j) [
-        | inl alike ↦ (same, alike)
-        | inr differ ↦
-          let here : IsAt lists o j x = subst (λ q. IsAt lists q j x) (sym same) there in
-          absurd (omega (arith, few, count, among x lists o i at, counted-twice x (list_of lists o) i j at here differ))
-      ]
-    ];
+      let few = once.few x in
+      let count = users-count lists x in
+      elim (cases_eq o p) [
+        | inr apart ↦ absurd (omega (arith, few, count, among-two x lists o i p j at there apart))
+        | inl same ↦ elim (cases_eq i j) [
+          | inl alike ↦ (same, alike)
+          | inr differ ↦
+              let here : IsAt lists o j x = subst (λ q. IsAt lists q j x) (sym same) there in
+              absurd (omega (arith, few, count, among x lists o i at, counted-twice x (list_of lists o) i j at here differ))
+        ]
+      ];
   marked = λ o i x at. (once.used x).1 (omega (arith, users-count lists x, among x lists o i at, counted x (list_of lists o) i at));
   listed = λ x marked. found x lists (omega (arith, users-count lists x, (once.used x).0 marked));
 }
@@ -168,14 +168,15 @@ pub users-from_owns : (lists : List (List ℕ)) (bits : List Bool) → Owns list
 users-from_owns lists bits owns = record {
   few = λ x. elim (cases_lt 1 (length (users (uses_of lists) x))) [
     | inl many ↦
-      let twice = found-twice x lists (omega (arith, many, users-count lists x)) in
-      let rest = twice.1.1.1 in
-      absurd (rest.3 (owns.once twice.0 twice.1.0 twice.1.1.0 rest.0 x rest.1 rest.2))
+        let twice = found-twice x lists (omega (arith, many, users-count lists x)) in
+        let rest = twice.1.1.1 in
+        absurd (rest.3 (owns.once twice.0 twice.1.0 twice.1.1.0 rest.0 x rest.1 rest.2))
     | inr few ↦ few
   ];
   used = λ x. (
     λ marked.
-      let at = owns.listed x marked in
-      omega (arith, users-count lists x, among x lists at.0 at.1.0 at.1.1, counted x (list_of lists at.0) at.1.0 at.1.1),
-    λ some. let at = found x lists (omega (arith, some, users-count lists x)) in owns.marked at.0 at.1.0 x at.1.1);
+        let at = owns.listed x marked in
+        omega (arith, users-count lists x, among x lists at.0 at.1.0 at.1.1, counted x (list_of lists at.0) at.1.0 at.1.1),
+    λ some. let at = found x lists (omega (arith, some, users-count lists x)) in owns.marked at.0 at.1.0 x at.1.1,
+  );
 }

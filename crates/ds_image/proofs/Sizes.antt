@@ -45,7 +45,7 @@ ptr_listed p o b i n there kind e =
     let list : list_of (ptr_lists p) o ≡ ptrs_of (part_at p.bodies o) = get_or-map ptrs_of p.bodies o None [] (part_within p.bodies o b there) in
     rw (list, there, kind) e
 
-many_pointers : (n : ℕ) → n ≤ 12288 → pointer_blocks n ≤ 96
+pub many_pointers : (n : ℕ) → n ≤ 12288 → pointer_blocks n ≤ 96
 many_pointers n h =
     ⊎_elim
     (λ (above : 96 < n). let test : nat_le n 96 ≡ false = grind (arith, nat_tests) in rw test (omega arith))

@@ -179,12 +179,12 @@ module _ (parents : List (Option ℕ)) (leads : List Bool) where
   -- the walk has come to an object that has no parent
   pub walk-stops : (seen : List (Option ℕ)) (object : ℕ) → walk_to seen object ≡ None → IsWalk seen object
       → ((p : ℕ) → parent_of parents object ≡ Some p → length parents ≤ p)
-          → AreSettled parents (set seen object (Some (length leads))) (leads ++ false ∷ [])
+      → AreSettled parents (set seen object (Some (length leads))) (leads ++ false ∷ [])
   walk-stops seen object unseen is past =
       let some : 0 < length parents = omega (arith, is.is_path.within) in
       let not = leads-not parents object (not-root seen object unseen is.is_path) some past in
       path-settles (set seen object (Some (length leads))) object false (path-marked seen object unseen is.is_path) (length leads)
-          (start-marked seen object unseen is)
+      (start-marked seen object unseen is)
       (λ no. absurd (false≢true no), λ l. absurd (not l))
 
   -- the walk has come to an object that was seen before: by an earlier walk, or by itself
@@ -211,8 +211,7 @@ module _ (parents : List (Option ℕ)) (leads : List Bool) where
       right = elim (cases_eq walk (length leads)) [
         | inr apart ↦ (is.is_path.known object walk at apart).1
         | inl same ↦
-            let on_it : walk_to seen object ≡ Some (length leads) = at ∙ ap Some same in
-            (
+            let on_it : walk_to seen object ≡ Some (length leads) = at ∙ ap Some same in (
               λ yes. absurd (false≢true (sym (get_or_past leads walk false (omega (arith, same))) ∙ yes)),
               λ l. absurd (closed-not parents (λ o. walk_to seen o ≡ Some (length leads)) no_root (stays on_it) object l on_it),
             )

@@ -1,5 +1,5 @@
 -- Which object lists which items, and which items are marked as used.
-use Rattle.std.specs.Prelude.{◌≡◌, ℕ, Bool, true, false, List, [], Option, Some, slice_get, slice_index_or}
+use Rattle.std.specs.Prelude.{◌≡◌, ℕ, Bool, true, false, List, [], Some, slice_get, slice_index_or}
 
 -- the items that object number o lists, in order
 abbrev pub list_of : List (List ℕ) → ℕ → List ℕ

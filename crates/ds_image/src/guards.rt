@@ -1,5 +1,5 @@
 //! Which lock object protects a sector of an image.
-ghost use Rattle.std.specs.Prelude.{◌≡◌, ◌==◌, ◌/◌, ◌<◌, ◌≤◌, Some, slice_get};
+ghost use Rattle.std.specs.Prelude.{◌≡◌, ◌==◌, ◌/◌, ◌<◌, ◌≤◌, ◌↔◌, Some, IsSome, slice_get};
 ghost use Rattle.std.specs.List.{list_any};
 ghost use Rattle.ds_base.specs.Decoding.{IsDecoded};
 ghost use Rattle.ds_base.specs.Geometry.{IsGeom, items_of, per_cluster};
@@ -8,6 +8,7 @@ ghost use Rattle.ds_layout.specs.Places.{cluster_lock, IsPlace};
 ghost use Rattle.ds_tree.specs.Counts.{pointer_blocks};
 ghost use Rattle.ds_image.specs.Guards.{lister_or, guard_of, IsGuard};
 ghost use Rattle.ds_image.specs.Listers.{listed_of, listed_lists};
+ghost use Rattle.ds_image.specs.Metadata.{IsMetadata};
 ghost use Rattle.ds_image.specs.Parts.{Parts, part_at};
 ghost use Rattle.ds_image.specs.Readings.{SpellsBody, Reads};
 
@@ -19,7 +20,8 @@ use ds_layout::{Place, place_of, sector_of};
 /// The lock object that protects a sector: a body's descriptor, a bitmap's cluster, and for a sub-block or a pointer block
 /// the least descriptor that lists it, or else its cluster. `None` where the sector is none of these.
 pub fn guard(image: &Image, at: SectorNo) -> Option<ObjNo>
-    ensures { IsDecoded result (IsGuard image.now.geom (slice_get image.now.sectors) at) }
+    ensures exact { IsDecoded result (IsGuard image.now.geom (slice_get image.now.sectors) at) }
+    ensures metadata { IsSome result ↔ IsMetadata image.now.geom at }
 {
     let place = place_of(image.geom(), at)?;
     guard_of(image, &place)

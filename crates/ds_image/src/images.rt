@@ -1,8 +1,8 @@
 //! Logical images.
-ghost use Rattle.std.specs.Prelude.{◌≡◌, true, Some, MatchOption, slice_get, length};
+ghost use Rattle.std.specs.Prelude.{◌≡◌, true, Some, MatchOption, slice_get};
 ghost use Rattle.ds_base.specs.Geometry.{IsGeom};
-ghost use Rattle.ds_layout.specs.Places.{blocks_at, IsPlace, place_sector};
 ghost use Rattle.ds_image.specs.ImageValues.{IsImage};
+ghost use Rattle.ds_layout.specs.Places.{IsPlace, place_sector};
 ghost use Rattle.ds_image.specs.Metadata.{IsMetadata, is_metadata};
 
 use ds_base::{Geom, Sector, SectorNo};
@@ -50,15 +50,6 @@ impl Image {
         }
     }
 
-    /// The geometry of the volume.
-    pub fn geom(&self) -> &Geom
-        ensures same { result.now ≡ self.now.geom }
-        ensures ranges { IsGeom result.now }
-        ensures whole { IsImage self.now.geom self.now.sectors }
-    {
-        &self.geom
-    }
-
     /// The sector of a body, a bitmap, a sub-block or a pointer block; `None` where the sector is none of these.
     pub fn sector(&self, at: SectorNo) -> Option<&Sector>
         ensures { MatchOption result (¬ IsMetadata self.now.geom at)
@@ -69,6 +60,15 @@ impl Image {
             return None;
         }
         self.sectors.get(at as usize)
+    }
+
+    /// The geometry of the volume.
+    pub fn geom(&self) -> &Geom
+        ensures value { result.now ≡ self.now.geom }
+        ensures ranges { IsGeom result.now }
+        ensures whole { IsImage self.now.geom self.now.sectors }
+    {
+        &self.geom
     }
 
     /// The sector of a body, a bitmap, a sub-block or a pointer block, by its place.

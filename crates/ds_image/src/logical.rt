@@ -1,6 +1,7 @@
 //! The logical image of a device.
-ghost use Rattle.std.specs.Prelude.{All, ◌≡◌, ◌<◌, ◌≤◌, [], Some, MatchOption, IfOk, IfErr, OnOk, slice_get, length};
+ghost use Rattle.std.specs.Prelude.{All, List, ◌≡◌, ◌<◌, ◌≤◌, [], Some, MatchOption, IfOk, IfErr, OnOk, slice_get, length};
 ghost use Rattle.ds_base.specs.Geometry.{IsGeom};
+ghost use Rattle.ds_base.specs.declared.sectors.Sector.{Sector};
 ghost use Rattle.ds_layout.specs.Places.{blocks_at, total_of};
 ghost use Rattle.ds_image.specs.BadSectors.{HasNoBad};
 ghost use Rattle.ds_image.specs.Faults.{IsFaultOf};
@@ -20,8 +21,22 @@ use ds_layout::{Place, sector_of};
 use ds_marks::Journal;
 use std::alloc::Global;
 
-/// The logical image of a device that holds a volume: its metadata with the pending pairs of all slots laid over them.
+/// The logical image of a store that holds a volume, which is the only one: its metadata with the pending pairs of all slots laid
+/// over them.
 pub fn overlay<S: Store>(alloc: Global, geom: &Geom, store: &S) -> Result<Image, ImageFault>
+    requires geom { IsGeom geom.now }
+    requires size { length (S.sectors store.now) ≡ total_of geom.now }
+    ensures geom { IfOk result (λ image. image.geom ≡ geom.now) }
+    ensures logical { IfOk result (λ image. IsLogical geom.now (S.sectors store.now) image.sectors) }
+    ensures only { IfOk result (λ image. (other : List Sector) → IsLogical geom.now (S.sectors store.now) other
+        → other ≡ image.sectors) }
+    ensures good { OnOk result (HasNoBad geom.now (S.sectors store.now)) }
+    ensures fault { IfErr result (IsFaultOf geom.now (S.sectors store.now)) }
+{
+    overlaid(alloc, geom, store)
+}
+
+fn overlaid<S: Store>(alloc: Global, geom: &Geom, store: &S) -> Result<Image, ImageFault>
     requires geom { IsGeom geom.now }
     requires size { length (S.sectors store.now) ≡ total_of geom.now }
     ensures geom { IfOk result (λ image. image.geom ≡ geom.now) }

@@ -1,5 +1,5 @@
 -- The report of a run: a part for each event, the number of changes, and the listing of the file tree.
-use Rattle.std.specs.Prelude.{ℕ, ◌<◌, ◌==◌, Bool, false, if◌then◌else◌, List, [], ◌++◌, filter, count_by, codes, decimal, slice_get, Option, Some, None}
+use Rattle.std.specs.Prelude.{ℕ, ◌<◌, ◌==◌, if◌then◌else◌, List, [], ◌++◌, filter, codes, decimal, slice_get, Option, Some, None}
 use Rattle.std.specs.List.{flat_map, enumerate_from, AllPairs}
 use Rattle.ds_tree.specs.declared.calls.CallOf.TheVariants as calls
 use Rattle.ds_tree.specs.declared.calls.HostCallOf.{HostCallOf}

@@ -1,5 +1,10 @@
 pub mod Answers
+pub mod Drafts
+pub mod Entries
 pub mod Faults
+pub mod FaultTexts
 pub mod Fronts
 pub mod Passing
 pub mod Reading
+pub mod Results
+pub mod Runs

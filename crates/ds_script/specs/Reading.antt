@@ -424,12 +424,16 @@ does_at names w ws =
     (host_named names w)
     (Err faults.Host)
 
+-- a host's line is bad where a directive or a `step` line has come before
+abbrev pub host_line_after : Bool → Words → Words → Reads Item
+host_line_after begun names ws = if begun then Err faults.Host else host_line_at names ws
+
 -- a later line, where the hosts so far have these names, and a directive or a `step` line has come before or not
 unfoldable pub item_at : Words → Bool → Words → Reads Item
 item_at names begun ws = do
   w ← word_at ws
   if bytes_eq w.0 (codes "volume") then Err faults.Volume
-      else if bytes_eq w.0 (codes "host") then (if begun then Err faults.Host else host_line_at names w.1)
+      else if bytes_eq w.0 (codes "host") then host_line_after begun names w.1
       else if bytes_eq w.0 (codes "step") then step_at names w.1
       else does_at names w.0 w.1
 
@@ -520,12 +524,15 @@ none_read number [] = Ok tt
 none_read number (line ∷ behind) =
     if is_comment (words_of line) then none_read (number + 1) behind else Err (BadLine number faults.Volume)
 
+-- a volume, where there is none of these lines
+abbrev pub only_volume_read : List ℕ × Geom → ℕ → List (List ℕ) → Result (List ℕ × Geom) ScriptFault
+only_volume_read volume number lines = none_read number lines >>= (λ none. Ok volume)
+
 -- a text as one volume line
 unfoldable pub volume_text_read : List ℕ → Result (List ℕ × Geom) ScriptFault
 volume_text_read bytes = do
   first ← first_read 1 (lines_of bytes)
-  _ ← none_read first.1 first.2
-  Ok first.0
+  only_volume_read first.0 first.1 first.2
 
 -- where there aren't too many bytes
 abbrev pub within_bytes : {A : Type 0} → List ℕ → Result A ScriptFault → Result A ScriptFault

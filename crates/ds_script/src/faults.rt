@@ -3,55 +3,41 @@
 ghost use Rattle.std.specs.Prelude.{◌≡◌};
 
 use ds_base::{HostNo, NoMemory};
+use std::fmt;
 use thiserror::Error;
 
 /// What is wrong with a line of a scenario: its first cause from left to right.
-#[derive(Clone, Copy, Debug, PartialEq, Eq, Error)]
+#[derive(Clone, Copy, Debug, PartialEq, Eq)]
 pub enum LineFault {
     /// It isn't a volume line where one is due, or it is one where none is due.
-    #[error("volume")]
     Volume,
     /// An unknown directive or keyword, a byte that no word has, or a word of more than 255 bytes.
-    #[error("word")]
     Word,
     /// Too few or too many words.
-    #[error("count")]
     Count,
     /// A word that isn't a number in its range.
-    #[error("number")]
     Number,
     /// A word that isn't an id.
-    #[error("uuid")]
     Uuid,
     /// A number of the geometry out of its range.
-    #[error("geom")]
     Geom,
     /// An unknown host, a host's name that is taken or badly spelt, or a host's line after a directive or a `step` line.
-    #[error("host")]
     Host,
     /// A badly spelt variable, or one that would bind `root`.
-    #[error("variable")]
     Variable,
     /// An unknown kind of command.
-    #[error("point")]
     Point,
     /// A hold, a crash or a fault whose host has no call next.
-    #[error("arm")]
     Arm,
 }
 
 /// What was too large.
-#[derive(Clone, Copy, Debug, PartialEq, Eq, Error)]
+#[derive(Clone, Copy, Debug, PartialEq, Eq)]
 pub enum What {
-    #[error("bytes")]
     Bytes,
-    #[error("hosts")]
     Hosts,
-    #[error("directives")]
     Directives,
-    #[error("steps")]
     Steps,
-    #[error("volume")]
     Volume,
 }
 
@@ -67,6 +53,45 @@ pub enum ScriptFault {
     Stuck { host: HostNo, directive: u32 },
     #[error("out of memory")]
     NoMemory,
+}
+
+impl fmt::Display for LineFault {
+    ghost use Rattle.std.specs.Prelude.{Some};
+    ghost use Rattle.ds_script.specs.FaultTexts.{fault_text};
+
+    ghost output = { λ fault. Some (fault_text fault) };
+
+    fn fmt<W: fmt::Write>(&self, f: &mut fmt::Formatter<W>) -> fmt::Result {
+        match self {
+            LineFault::Volume => write!(f, "volume"),
+            LineFault::Word => write!(f, "word"),
+            LineFault::Count => write!(f, "count"),
+            LineFault::Number => write!(f, "number"),
+            LineFault::Uuid => write!(f, "uuid"),
+            LineFault::Geom => write!(f, "geom"),
+            LineFault::Host => write!(f, "host"),
+            LineFault::Variable => write!(f, "variable"),
+            LineFault::Point => write!(f, "point"),
+            LineFault::Arm => write!(f, "arm"),
+        }
+    }
+}
+
+impl fmt::Display for What {
+    ghost use Rattle.std.specs.Prelude.{Some};
+    ghost use Rattle.ds_script.specs.FaultTexts.{what_text};
+
+    ghost output = { λ what. Some (what_text what) };
+
+    fn fmt<W: fmt::Write>(&self, f: &mut fmt::Formatter<W>) -> fmt::Result {
+        match self {
+            What::Bytes => write!(f, "bytes"),
+            What::Hosts => write!(f, "hosts"),
+            What::Directives => write!(f, "directives"),
+            What::Steps => write!(f, "steps"),
+            What::Volume => write!(f, "volume"),
+        }
+    }
 }
 
 impl From<NoMemory> for ScriptFault {

@@ -88,7 +88,7 @@ fn length_of_run(line: &[u8]) -> usize
     line.len()
 }
 
-fn is_visible(b: u8) -> bool
+pub fn is_visible(b: u8) -> bool
     ensures { result ≡ is_visible b }
 {
     b.is_ascii_graphic()

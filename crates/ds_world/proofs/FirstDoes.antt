@@ -1,7 +1,7 @@
 -- What the calls of the first world do to its trees.
-use Rattle.std.proofs.Common.{◌≡◌, ◌≢◌, ℕ, zero, suc, ◌+◌, ◌-◌, ◌*◌, ◌≤◌, ◌<◌, ◌==◌, ◌&&◌, ◌⊎◌, inl, inr, Bool, true, false, not, cond, List, [], ◌∷◌, ◌++◌, length, get_or, set, map, refl, ap, sym, subst, ◌∙◌, arith, length-set, get_or-set_same, get_or-set_other, Option, Some, None}
-use Rattle.std.specs.Prelude.{fold, nat_le, nat_lt, is_some, option_map, slice_get, slice_set, if◌then◌else◌, MatchOption, replicate}
-use Rattle.std.specs.List.{find, sum_by}
+use Rattle.std.proofs.Common.{◌≡◌, ◌≢◌, ℕ, zero, suc, ◌+◌, ◌≤◌, ◌<◌, ◌==◌, ◌&&◌, Bool, true, false, not, List, [], ◌∷◌, ◌++◌, length, get_or, map, refl, ap, sym, subst, ◌∙◌, arith, get_or-set_same, get_or-set_other, Option, Some, None}
+use Rattle.std.specs.Prelude.{nat_le, is_some, option_map, slice_set, if◌then◌else◌, MatchOption, replicate}
+use Rattle.std.specs.List.{find}
 use Rattle.std.specs.Str.{bytes_eq}
 use Rattle.std.specs.Ordering.{nat_cmp}
 use Rattle.std.specs.Cmp.Lexicographic.{slice_cmp}
@@ -13,20 +13,19 @@ use Rattle.ds_base.specs.declared.geometry.Geom.{Geom}
 use Rattle.ds_base.specs.declared.geometry.Kind.TheVariants as kinds
 use Rattle.ds_base.specs.declared.names.Key.{Key}
 use Rattle.ds_base.specs.declared.names.NodeKind.TheVariants as node_kinds
-use Rattle.ds_base.specs.Geometry.{items_of}
 use Rattle.ds_tree.specs.declared.calls.CallOf.{CallOf}
 use Rattle.ds_tree.specs.declared.calls.CallOf.TheVariants as calls
 use Rattle.ds_tree.specs.declared.calls.TreeReply.{TreeReply}
 use Rattle.ds_tree.specs.declared.calls.TreeReply.TheVariants as replies
-use Rattle.ds_tree.specs.Nodes.{Entries, Node, Dir, File, Object, FileTree, unborn, root_key, object_at, node_at, birth_at, node_of_key, with_object, with_node, fresh_tree}
+use Rattle.ds_tree.specs.Nodes.{Dir, File, Object, FileTree, unborn, root_key, object_at, node_at, birth_at, node_of_key, with_object, with_node, fresh_tree}
 use Rattle.ds_tree.specs.Counts.{node_uses, used_of, free_of}
-use Rattle.ds_tree.specs.Steps.{refuse, refuses_new, refuses_room, refuses_missing, is_full, refusal, Succeeds, Does, rooms_with_one_more, Makes}
+use Rattle.ds_tree.specs.Steps.{refuse, refuses_room, is_full, refusal, Succeeds, Does, rooms_with_one_more}
 use Rattle.ds_tree.specs.FirstForm.{first_geom}
 use Rattle.ds_dir.specs.declared.sub_block.Entry.{Entry}
 use Rattle.ds_host.specs.FirstConduct.{reply_to_lookup}
 use Rattle.ds_world.specs.FirstRules.{NumberedFrom, entries_map, rooms_for, file_of, with_file, tree_of}
-use Rattle.ds_world.proofs.Pushes.{fold-push, length-push}
-use Rattle.ds_world.proofs.FirstTree.{files_in, length-files, object_below, object_past, IsFileIn, file_found, found_by_name, get-entries_map, len-entries_map, used-files}
+use Rattle.ds_world.proofs.Pushes.{fold-push}
+use Rattle.ds_world.proofs.FirstTree.{files_in, length-files, object_below, object_past, file_found, found_by_name, get-entries_map, len-entries_map, used-files}
 
 pub does_refused : (g : Geom) (t : FileTree) (call : CallOf Key) (reply : TreeReply) → refusal g t call ≡ Some reply → Does g t call reply t
 does_refused g t call reply refused =

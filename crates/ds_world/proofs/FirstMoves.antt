@@ -1,7 +1,6 @@
 -- The turns of the first world, as its methods make them.
-use Rattle.std.proofs.Common.{◌≡◌, ◌≢◌, ℕ, zero, suc, ◌+◌, ◌-◌, ◌*◌, ◌≤◌, ◌<◌, ◌==◌, ◌⊎◌, inl, inr, Bool, true, false, List, [], ◌∷◌, ◌++◌, length, drop, refl, ap, sym, subst, ◌∙◌, arith, Option, Some, None}
-use Rattle.std.specs.Prelude.{slice_get, slice_index, replicate, map, nat_lt, MatchOption, count_by}
-use Rattle.std.proofs.lemmas.Bool.{false≢true}
+use Rattle.std.proofs.Common.{◌≡◌, ℕ, zero, suc, ◌+◌, ◌-◌, ◌*◌, ◌≤◌, ◌<◌, ◌⊎◌, inl, inr, Bool, true, false, List, [], ◌∷◌, ◌++◌, length, refl, ap, sym, subst, ◌∙◌, arith, Option, Some, None}
+use Rattle.std.specs.Prelude.{slice_get, slice_index, replicate, map, nat_lt, MatchOption}
 use Rattle.std.proofs.lemmas.Bool.Decides.{nat_tests}
 use Rattle.std.specs.List.{AllByRecursion}
 use Rattle.ds_base.specs.declared.sectors.Sector.{Sector}
@@ -23,7 +22,7 @@ use Rattle.ds_tree.specs.declared.variables.Spoken.{Spoken}
 use Rattle.ds_tree.specs.declared.variables.Spoken.TheVariants.{Root, Var}
 use Rattle.ds_tree.specs.Nodes.{root_key}
 use Rattle.ds_tree.specs.declared.scenarios.Directive.{Directive}
-use Rattle.ds_tree.specs.FirstForm.{register, IsFirstDirective, IsFirstForm}
+use Rattle.ds_tree.specs.FirstForm.{register, IsFirstDirective}
 use Rattle.ds_dir.specs.declared.sub_block.Entry.{Entry}
 use Rattle.ds_dir.specs.declared.sub_block.SubBlock.{SubBlock}
 use Rattle.ds_dir.proofs.Laws.{sub_same}
@@ -36,14 +35,12 @@ use Rattle.ds_host.specs.declared.first_host.Stage.TheVariants.{Rest, Reading, F
 use Rattle.ds_host.specs.FirstStates.{FirstState}
 use Rattle.ds_host.specs.Rooms.{entries_in, entry_named, has_free_room, next_key}
 use Rattle.ds_host.specs.FirstConduct.{tree_call, due, IsFirstCall, Begins, SpellsRooms, ReadsRooms, Reads, Fills, Takes, MayTake, reply_to_lookup, at_stage}
-use Rattle.ds_world.specs.declared.logs.Event.{Event}
-use Rattle.ds_world.specs.declared.logs.Reply.{Reply}
 use Rattle.ds_world.specs.Scripts.{list_of}
 use Rattle.ds_tree.specs.Nodes.{FileTree}
 use Rattle.ds_tree.specs.FirstForm.{first_geom}
 use Rattle.ds_world.specs.Store.{store}
-use Rattle.ds_world.specs.FirstRules.{NumberedFrom, first_rules, tree_of, IsTreeOf}
-use Rattle.ds_world.specs.FirstWorlds.{FirstWorldValue, turns_at, turns_left, root_directive, name_of, AsksFor, IsReading, IsSwapping, IsUnderWay, IsFilling, StageHolds, stepped, sent_event, local_event, reply_now, place_of, FirstHolds}
+use Rattle.ds_world.specs.FirstRules.{first_rules, tree_of, IsTreeOf}
+use Rattle.ds_world.specs.FirstWorlds.{FirstWorldValue, turns_at, root_directive, name_of, AsksFor, IsReading, IsSwapping, stepped, sent_event, local_event, reply_now, place_of, FirstHolds}
 use Rattle.ds_world.proofs.Pushes.{get-within}
 use Rattle.ds_world.proofs.FirstDoes.{named, does_lookup, does_exist}
 use Rattle.ds_world.proofs.FirstScripts.{list_is}

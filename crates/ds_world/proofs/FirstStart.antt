@@ -1,9 +1,8 @@
 -- The first world before its first turn, and what its log promises.
-use Rattle.std.proofs.Common.{◌≡◌, ℕ, zero, suc, ◌+◌, ◌≤◌, ◌∙◌, Bool, get_or, List, [], ◌∷◌, ◌++◌, length, take, drop, refl, ap, sym, subst, arith, cond, false, Option, Some, None}
+use Rattle.std.proofs.Common.{◌≡◌, ℕ, zero, suc, ◌≤◌, ◌∙◌, Bool, get_or, List, [], ◌∷◌, length, take, drop, refl, ap, sym, subst, arith, cond, false, Some, None}
 use Rattle.std.specs.Prelude.{slice_get, count_by}
 use Rattle.std.specs.List.{AllByRecursion}
 use Rattle.std.proofs.lemmas.List.Sums.{sum_by-cons}
-use Rattle.ds_base.specs.declared.sectors.Sector.{Sector}
 use Rattle.ds_base.specs.declared.names.Key.{Key}
 use Rattle.ds_base.specs.declared.geometry.GeomField.TheVariants.{Slots, Block, Clusters, Items}
 use Rattle.ds_base.specs.declared.geometry.Kind.TheVariants.{Fd, Sb, Pb, Fb}
@@ -27,13 +26,13 @@ use Rattle.ds_world.specs.declared.logs.Event.{Event}
 use Rattle.ds_world.specs.declared.logs.Reply.{Reply}
 use Rattle.ds_world.specs.History.{Calls}
 use Rattle.ds_world.specs.Headline.{StandsAfter, Headline}
-use Rattle.ds_world.specs.Scripts.{list_of, directive_at, key_of, call_of, calls_of}
+use Rattle.ds_world.specs.Scripts.{list_of, key_of, call_of, calls_of}
 use Rattle.ds_world.specs.Store.{change_count}
 use Rattle.ds_world.specs.Commits.{commits}
 use Rattle.ds_world.specs.Follows.{is_reply_before, finished, IsAtEnd, AreOf, NoneOf, InDrain, InReplayOrder}
 use Rattle.ds_world.specs.FirstRules.{zero_sector, first_rules, tree_of}
 use Rattle.ds_world.specs.FirstWorlds.{FirstWorldValue, FirstHolds}
-use Rattle.ds_world.proofs.FirstScripts.{plan_list, list_is, no_list}
+use Rattle.ds_world.proofs.FirstScripts.{list_is, no_list}
 
 same_call : (key other : Spoken → Key) → key Root ≡ other Root → (d : Directive) → IsFirstDirective d → call_of key (Some d) ≡ call_of other (Some d)
 same_call key other same (directives.Call (host_calls.Tree (calls.Create Root name)) None) is = ap (λ (k : Key). Some (calls.Create k name)) same

@@ -1,49 +1,20 @@
 -- Each kind of turn keeps what holds of the first world.
-use Rattle.std.proofs.Common.{◌≡◌, ◌≢◌, ℕ, zero, suc, ◌+◌, ◌-◌, ◌≤◌, ◌<◌, ◌==◌, ◌&&◌, ◌⊎◌, inl, inr, Bool, true, false, cond, List, [], ◌∷◌, ◌++◌, length, drop, take, refl, ap, sym, subst, ◌∙◌, arith, Option, Some, None}
-use Rattle.std.specs.Prelude.{slice_get, slice_set, count_by, nat_lt, replicate, map, if◌then◌else◌}
-use Rattle.std.proofs.lemmas.Bool.{false≢true}
+use Rattle.std.proofs.Common.{◌≡◌, ℕ, suc, ◌+◌, ◌<◌, inl, inr, Bool, true, false, cond, List, [], ◌∷◌, ◌++◌, drop, refl, ap, sym, subst, ◌∙◌, arith, Some, None}
+use Rattle.std.specs.Prelude.{slice_get, count_by, if◌then◌else◌}
 use Rattle.std.proofs.lemmas.Bool.Decides.{nat_tests}
 use Rattle.std.proofs.lemmas.List.Sums.{sum_by-cons, sum_by-drop_more}
 use Rattle.std.proofs.lemmas.Option.{get_or_from_slice_get}
-use Rattle.ds_base.specs.declared.sectors.Sector.{Sector}
-use Rattle.ds_base.specs.declared.commands.Command.{Command}
-use Rattle.ds_base.specs.declared.commands.Command.TheVariants.{Read, Swap}
-use Rattle.ds_base.specs.declared.commands.Response.{Response}
-use Rattle.ds_base.specs.declared.commands.Response.TheVariants.{Got, Done}
-use Rattle.ds_base.specs.Device.{Answers, takes_effect, stored}
-use Rattle.ds_tree.specs.declared.calls.TreeReply.{TreeReply}
 use Rattle.ds_tree.specs.declared.scenarios.Directive.{Directive}
-use Rattle.ds_tree.specs.declared.scenarios.Scenario.{Scenario}
-use Rattle.ds_tree.specs.FirstForm.{is_create, first_geom}
-use Rattle.ds_tree.specs.Steps.{Does}
-use Rattle.ds_host.specs.declared.answers.HostAnswer.{HostAnswer}
-use Rattle.ds_host.specs.declared.answers.HostAnswer.TheVariants.{Tree, Registered}
-use Rattle.ds_host.specs.declared.first_host.RootCall.{RootCall}
-use Rattle.ds_host.specs.declared.first_host.RootCall.TheVariants.{Create, Lookup}
+use Rattle.ds_tree.specs.FirstForm.{is_create}
 use Rattle.ds_host.specs.declared.first_host.Stage.{Stage}
 use Rattle.ds_host.specs.declared.first_host.Stage.TheVariants.{Rest, Reading, Filling}
-use Rattle.ds_host.specs.FirstStates.{FirstState}
-use Rattle.ds_host.specs.FirstConduct.{tree_call, at_stage}
-use Rattle.ds_world.specs.declared.logs.Step.{Step}
-use Rattle.ds_world.specs.declared.logs.Step.TheVariants.{Local, Sent}
 use Rattle.ds_world.specs.declared.logs.Event.{Event}
 use Rattle.ds_world.specs.declared.logs.Reply.{Reply}
-use Rattle.ds_world.specs.LogValues.{LogValue}
-use Rattle.ds_world.specs.Store.{store, after_step}
-use Rattle.ds_world.specs.Commits.{commits, commits_next}
-use Rattle.ds_world.specs.Moments.{AtEveryMoment}
-use Rattle.ds_world.specs.History.{Change, HasPlace, Stands, IsGiven}
-use Rattle.ds_world.specs.Headline.{StandsAfter}
-use Rattle.ds_world.specs.Scripts.{list_of, calls_of}
-use Rattle.ds_world.specs.Follows.{is_reply_before, finished, holding, held, generation_given, is_event_of, IsCommand, Carries, IsNext, Follows}
-use Rattle.ds_world.specs.FirstRules.{first_rules, tree_of}
-use Rattle.ds_world.specs.FirstWorlds.{FirstWorldValue, root_directive, IsUnderWay, StageHolds, sent_at, AreReached, stepped, sent_event, local_event, reply_now, FirstHolds}
-use Rattle.ds_world.proofs.Pushes.{length-push, get-push_old, get-push_last, get-push_cases, get-within, take-push_whole, count_by-push, fold-push}
-use Rattle.ds_world.proofs.Growing.{store-push, commits-take, commits-push_none, commits-push_one, commits-fronts, AtEveryMoment-push, AtEveryMoment-map}
-use Rattle.ds_world.proofs.Legal.{IsGiven-push, IsLegal-event, IsLegal-change, IsLegal-reply}
-use Rattle.ds_world.proofs.Whole.{whole-reply, whole-event, whole-commit, StandsAfter-tree}
-use Rattle.ds_world.proofs.Following.{finished-later, held-later, follows-event, follows-answered}
-use Rattle.ds_world.proofs.FirstScripts.{list_is, calls_of-next, clock-first}
+use Rattle.ds_world.specs.Commits.{commits}
+use Rattle.ds_world.specs.History.{Change}
+use Rattle.ds_world.specs.Follows.{is_reply_before, finished, holding, held, generation_given, is_event_of}
+use Rattle.ds_world.specs.FirstWorlds.{FirstWorldValue, StageHolds, AreReached, FirstHolds}
+use Rattle.ds_world.proofs.Pushes.{get-push_cases, get-within, count_by-push, fold-push}
 
 -- The room of the log doesn't matter
 

@@ -1,7 +1,7 @@
 -- The trees of a root directory with up to four empty files.
-use Rattle.std.proofs.Common.{◌≡◌, ◌≢◌, ℕ, zero, suc, ◌+◌, ◌-◌, ◌*◌, ◌≤◌, ◌<◌, ◌==◌, ◌⊎◌, inl, inr, ◌&&◌, Bool, true, false, not, cond, List, [], ◌∷◌, ◌++◌, length, get_or, set, map, refl, ap, sym, subst, ◌∙◌, arith, length-set, get_or-set_same, get_or-set_other, Option, Some, None}
-use Rattle.std.specs.Prelude.{fold, nat_le, nat_lt, is_some, option_map, slice_get, if◌then◌else◌}
-use Rattle.std.specs.List.{find, sum_by}
+use Rattle.std.proofs.Common.{◌≡◌, ◌≢◌, ℕ, ◌+◌, ◌*◌, ◌≤◌, ◌<◌, ◌⊎◌, inl, inr, Bool, true, false, cond, List, [], ◌∷◌, length, map, refl, ap, sym, subst, ◌∙◌, arith, length-set, get_or-set_same, get_or-set_other, Option, Some, None}
+use Rattle.std.specs.Prelude.{fold, option_map}
+use Rattle.std.specs.List.{find}
 use Rattle.std.specs.Str.{bytes_eq}
 use Rattle.std.specs.Ordering.{nat_cmp, eq_by_cmp}
 use Rattle.std.specs.Cmp.Lexicographic.{slice_cmp}
@@ -9,19 +9,15 @@ use Rattle.std.specs.FinMap as maps
 use Rattle.std.proofs.lemmas.Cmp.{nat_list_cmp_total}
 use Rattle.std.proofs.lemmas.Map.Text.{is_eq-slice_cmp}
 use Rattle.std.proofs.lemmas.Slice.Eq.{bytes_eq-Decides}
-use Rattle.std.proofs.lemmas.Bool.Decides.{nat_tests, same_from_decides}
+use Rattle.std.proofs.lemmas.Bool.Decides.{same_from_decides}
 use Rattle.std.proofs.lemmas.List.Sums.{sum_by-set}
-use Rattle.ds_base.specs.declared.geometry.Geom.{Geom}
 use Rattle.ds_base.specs.declared.geometry.Kind.{Kind}
-use Rattle.ds_base.specs.declared.geometry.Kind.TheVariants as kinds
 use Rattle.ds_base.specs.declared.names.Key.{Key}
 use Rattle.ds_base.specs.declared.names.NodeKind.TheVariants as node_kinds
-use Rattle.ds_tree.specs.Nodes.{Entries, Node, Dir, File, Object, FileTree, unborn, object_at, node_at, birth_at, with_object, with_node, fresh_tree}
-use Rattle.ds_tree.specs.Counts.{node_uses, used_of, free_of}
-use Rattle.ds_tree.specs.FirstForm.{first_geom}
+use Rattle.ds_tree.specs.Nodes.{File, Object, FileTree, unborn, object_at, node_at}
+use Rattle.ds_tree.specs.Counts.{node_uses, used_of}
 use Rattle.ds_dir.specs.declared.sub_block.Entry.{Entry}
-use Rattle.ds_world.specs.FirstRules.{NumberedFrom, entries_map, rooms_for, file_of, with_file, tree_of}
-use Rattle.ds_world.proofs.Pushes.{fold-push}
+use Rattle.ds_world.specs.FirstRules.{NumberedFrom, entries_map, file_of, with_file}
 
 abbrev pub object_is : Key → ℕ
 object_is key = key.object

@@ -1,8 +1,8 @@
 -- The tree that is built from the rooms is the one of their entries.
-use Rattle.std.proofs.Common.{◌≡◌, ℕ, zero, suc, ◌+◌, ◌≤◌, ◌<◌, true, List, [], ◌∷◌, length, refl, ap, sym, ◌∙◌, arith, get_or, get_or-set_same, Option, Some, None}
+use Rattle.std.proofs.Common.{◌≡◌, ℕ, ◌+◌, ◌≤◌, ◌<◌, true, List, [], ◌∷◌, length, refl, ap, sym, ◌∙◌, arith, get_or, get_or-set_same, Option, Some, None}
 use Rattle.std.specs.Prelude.{fold, slice_set}
 use Rattle.std.specs.FinMap as maps
-use Rattle.ds_tree.specs.Nodes.{Entries, Node, Dir, Object, FileTree, unborn, object_at, node_at, birth_at, with_object, with_node, fresh_tree}
+use Rattle.ds_tree.specs.Nodes.{Entries, Dir, Object, FileTree, unborn, object_at, node_at, birth_at, with_object, with_node, fresh_tree}
 use Rattle.ds_tree.specs.Steps.{is_dir}
 use Rattle.ds_tree.specs.Trees.{entries_of, rooms_of}
 use Rattle.ds_tree.specs.FirstForm.{first_geom}

@@ -1,5 +1,5 @@
 -- What each kind of turn of the first world makes of it.
-use Rattle.std.proofs.Common.{◌≡◌, ◌≢◌, ℕ, zero, suc, ◌+◌, ◌-◌, ◌≤◌, ◌<◌, ◌==◌, ◌&&◌, ◌⊎◌, inl, inr, Bool, true, false, cond, List, [], ◌∷◌, ◌++◌, length, drop, take, refl, ap, sym, subst, ◌∙◌, arith, Option, Some, None}
+use Rattle.std.proofs.Common.{◌≡◌, ℕ, zero, suc, ◌+◌, ◌-◌, ◌≤◌, ◌<◌, inl, inr, Bool, true, false, cond, List, [], ◌∷◌, ◌++◌, length, drop, refl, ap, sym, subst, ◌∙◌, arith, Option, Some, None}
 use Rattle.std.specs.Prelude.{slice_get, slice_set, count_by, nat_lt, replicate, map, if◌then◌else◌}
 use Rattle.std.proofs.lemmas.Bool.Decides.{nat_tests}
 use Rattle.std.proofs.Math.Seq.{take-length}
@@ -25,30 +25,28 @@ use Rattle.ds_host.specs.declared.first_host.RootCall.{RootCall}
 use Rattle.ds_host.specs.declared.first_host.RootCall.TheVariants.{Create, Lookup}
 use Rattle.ds_host.specs.declared.first_host.Stage.{Stage}
 use Rattle.ds_host.specs.declared.first_host.Stage.TheVariants.{Rest, Reading, Filling}
-use Rattle.ds_host.specs.FirstStates.{FirstState}
-use Rattle.ds_host.specs.Rooms.{Rooms, entries_in, entry_named, with_entry, next_key, file_entry}
+use Rattle.ds_host.specs.Rooms.{entries_in, entry_named, with_entry, next_key, file_entry}
 use Rattle.ds_host.specs.FirstConduct.{SpellsRooms, tree_call, at_stage}
 use Rattle.ds_dir.specs.declared.sub_block.Entry.{Entry}
 use Rattle.ds_dir.specs.declared.sub_block.SubBlock.{SubBlock}
-use Rattle.ds_world.specs.declared.logs.Step.{Step}
-use Rattle.ds_world.specs.declared.logs.Step.TheVariants.{Local, Sent}
+use Rattle.ds_world.specs.declared.logs.Step.TheVariants.{Sent}
 use Rattle.ds_world.specs.declared.logs.Event.{Event}
 use Rattle.ds_world.specs.declared.logs.Reply.{Reply}
 use Rattle.ds_world.specs.Store.{store, after_step, has_taken, change_count}
 use Rattle.ds_world.specs.Commits.{commits, commits_next}
 use Rattle.ds_world.specs.Moments.{AtEveryMoment}
-use Rattle.ds_world.specs.History.{Change, HasPlace, Stands, IsGiven}
+use Rattle.ds_world.specs.History.{Change, Stands}
 use Rattle.ds_world.specs.Headline.{StandsAfter}
 use Rattle.ds_world.specs.Scripts.{list_of, calls_of}
-use Rattle.ds_world.specs.Follows.{finished, held, is_event_of, IsCommand, Carries, IsNext, Follows}
+use Rattle.ds_world.specs.Follows.{finished, held, is_event_of, IsCommand, Carries, IsNext}
 use Rattle.ds_world.specs.FirstRules.{first_rules, tree_of}
-use Rattle.ds_world.specs.FirstWorlds.{FirstWorldValue, root_directive, IsUnderWay, IsFilling, StageHolds, sent_at, AreReached, stepped, sent_event, local_event, reply_now, FirstHolds}
-use Rattle.ds_world.proofs.Pushes.{length-push, get-push_old, get-push_last, get-push_cases, get-within, take-push_whole, count_by-push}
-use Rattle.ds_world.proofs.Growing.{store-push, commits-take, commits-push_none, commits-push_one, commits-fronts, AtEveryMoment-push, AtEveryMoment-map}
-use Rattle.ds_world.proofs.Legal.{IsGiven-push, IsLegal-event, IsLegal-change, IsLegal-reply}
+use Rattle.ds_world.specs.FirstWorlds.{FirstWorldValue, root_directive, IsUnderWay, IsFilling, StageHolds, sent_at, stepped, sent_event, local_event, reply_now, FirstHolds}
+use Rattle.ds_world.proofs.Pushes.{length-push, get-push_last, get-push_cases, get-within, take-push_whole, count_by-push}
+use Rattle.ds_world.proofs.Growing.{store-push, commits-take, commits-push_none, commits-push_one, AtEveryMoment-push, AtEveryMoment-map}
+use Rattle.ds_world.proofs.Legal.{IsLegal-event, IsLegal-change, IsLegal-reply}
 use Rattle.ds_world.proofs.Whole.{whole-reply, whole-event, whole-commit, StandsAfter-tree}
 use Rattle.ds_world.proofs.Following.{finished-later, held-later, follows-event, follows-answered}
-use Rattle.ds_world.proofs.FirstScripts.{list_is, calls_of-next, calls_of-register, clock-first}
+use Rattle.ds_world.proofs.FirstScripts.{calls_of-next, calls_of-register, clock-first}
 use Rattle.ds_world.proofs.FirstDoes.{named, numbered-push, does_create}
 use Rattle.ds_world.proofs.FirstSteps.{none_later, creates_left, done-push, own-push, reached-event, reached-reply, reached-change}
 

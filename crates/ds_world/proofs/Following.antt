@@ -1,12 +1,9 @@
 -- A log that follows a scenario, with one event or one reply more.
-use Rattle.std.proofs.Common.{◌≡◌, ℕ, ◌+◌, ◌≤◌, ◌<◌, ◌⊎◌, inl, inr, Bool, true, false, List, [], ◌∷◌, ◌++◌, length, take, refl, ap, sym, subst, ◌∙◌, arith, cond, Option, Some, None}
-use Rattle.std.specs.Prelude.{slice_get, count_by, fold, nat_lt, ◌==◌, ◌&&◌, if◌then◌else◌}
+use Rattle.std.proofs.Common.{◌≡◌, ℕ, ◌+◌, ◌≤◌, inl, inr, Bool, false, List, [], ◌∷◌, ◌++◌, length, take, ap, sym, subst, ◌∙◌, arith, cond, None}
+use Rattle.std.specs.Prelude.{slice_get, if◌then◌else◌}
 use Rattle.std.proofs.lemmas.Bool.Decides.{nat_tests}
 use Rattle.std.proofs.lemmas.List.{length-take-le}
 use Rattle.ds_base.specs.declared.sectors.Sector.{Sector}
-use Rattle.ds_base.specs.declared.commands.Command.{Command}
-use Rattle.ds_base.specs.declared.commands.Response.{Response}
-use Rattle.ds_tree.specs.declared.calls.CallOf.{CallOf}
 use Rattle.ds_tree.specs.declared.calls.HostCallOf.TheVariants as host_calls
 use Rattle.ds_tree.specs.declared.scenarios.Directive.{Directive}
 use Rattle.ds_tree.specs.declared.scenarios.Directive.TheVariants as directives
@@ -15,11 +12,10 @@ use Rattle.ds_world.specs.declared.logs.Step.{Step}
 use Rattle.ds_world.specs.declared.logs.Step.TheVariants.{Local, Sent}
 use Rattle.ds_world.specs.declared.logs.Event.{Event}
 use Rattle.ds_world.specs.declared.logs.Reply.{Reply}
-use Rattle.ds_world.specs.Moments.{EachEvent}
 use Rattle.ds_world.specs.History.{IsGiven}
 use Rattle.ds_world.specs.Scripts.{list_of}
-use Rattle.ds_world.specs.Follows.{is_reply_before, finished, generation_given, holding, held, GivesReply, IsCommand, Carries, IsNext, Follows}
-use Rattle.ds_world.proofs.Pushes.{length-push, get-push_old, get-push_last, get-push_cases, get-within, count_by-push, fold-push}
+use Rattle.ds_world.specs.Follows.{is_reply_before, finished, generation_given, holding, held, Carries, IsNext, Follows}
+use Rattle.ds_world.proofs.Pushes.{get-push_old, get-push_last, get-push_cases, get-within, count_by-push, fold-push}
 use Rattle.ds_world.proofs.Growing.{EachEvent-push, EachEvent-map}
 use Rattle.ds_world.proofs.Legal.{IsGiven-push}
 

@@ -1,10 +1,7 @@
 -- A legal history with one event, one change or one reply more.
-use Rattle.std.proofs.Common.{◌≡◌, ℕ, zero, suc, ◌+◌, ◌≤◌, ◌<◌, ◌⊎◌, inl, inr, true, false, List, [], ◌∷◌, ◌++◌, length, take, refl, ap, sym, subst, ◌∙◌, arith, Option, Some, None}
+use Rattle.std.proofs.Common.{◌≡◌, ℕ, ◌+◌, ◌≤◌, inl, inr, List, [], ◌∷◌, ◌++◌, length, ap, sym, subst, ◌∙◌, arith, Some}
 use Rattle.std.specs.Prelude.{slice_get}
-use Rattle.std.proofs.Math.Nat.{eq-or-lt_of_le}
 use Rattle.ds_base.specs.declared.geometry.Geom.{Geom}
-use Rattle.ds_base.specs.declared.names.Key.{Key}
-use Rattle.ds_tree.specs.declared.calls.CallOf.{CallOf}
 use Rattle.ds_tree.specs.declared.calls.TreeReply.{TreeReply}
 use Rattle.ds_tree.specs.Nodes.{FileTree}
 use Rattle.ds_tree.specs.Steps.{Does}
@@ -14,9 +11,8 @@ use Rattle.ds_world.specs.declared.logs.Event.{Event}
 use Rattle.ds_world.specs.declared.logs.Reply.{Reply}
 use Rattle.ds_world.specs.Rules.{Rules}
 use Rattle.ds_world.specs.Commits.{commits}
-use Rattle.ds_world.specs.History.{Calls, Change, IsOf, IsFirstEvent, StandsAtChange, StandsAtTree, HasPlace, Stands, IsGiven, AreSteps, IsLegal}
+use Rattle.ds_world.specs.History.{Calls, Change, IsOf, IsFirstEvent, HasPlace, Stands, IsGiven, AreSteps, IsLegal}
 use Rattle.ds_world.proofs.Pushes.{length-push, get-push_old, get-push_last, get-push_cases, get-within, take-push}
-use Rattle.ds_world.proofs.Growing.{commits-fronts}
 
 pub IsGiven-push : (events : List Event) (e : Event) (r : Reply) → IsGiven events r → IsGiven (events ++ e ∷ []) r
 IsGiven-push events e r given = record {

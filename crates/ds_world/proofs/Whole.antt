@@ -1,5 +1,5 @@
 -- Commits and changes of a log with one event or one reply more, and the trees for which the device stands.
-use Rattle.std.proofs.Common.{◌≡◌, ℕ, ◌+◌, ◌≤◌, Bool, true, false, List, [], ◌∷◌, ◌++◌, length, take, refl, ap, sym, subst, ◌∙◌, arith, Option, Some}
+use Rattle.std.proofs.Common.{◌≡◌, ℕ, true, false, List, [], ◌∷◌, ◌++◌, ap, sym, ◌∙◌, arith, Some}
 use Rattle.std.specs.Prelude.{slice_get}
 use Rattle.std.proofs.lemmas.Bool.{false≢true}
 use Rattle.ds_tree.specs.Nodes.{FileTree}
@@ -7,11 +7,10 @@ use Rattle.ds_world.specs.declared.logs.Event.{Event}
 use Rattle.ds_world.specs.declared.logs.Reply.{Reply}
 use Rattle.ds_world.specs.Rules.{Rules}
 use Rattle.ds_world.specs.Commits.{commits, commits_next}
-use Rattle.ds_world.specs.Moments.{AtEveryMoment, EachEvent}
 use Rattle.ds_world.specs.History.{Calls, Change, IsChangeOf, IsWholeOrNot}
 use Rattle.ds_world.specs.Headline.{StandsAfter}
 use Rattle.ds_world.proofs.Pushes.{length-push, get-push_old, get-push_last}
-use Rattle.ds_world.proofs.Growing.{EachEvent-push, EachEvent-map, AtEveryMoment-map, commits-push_none, commits-push_one, commits-take}
+use Rattle.ds_world.proofs.Growing.{EachEvent-push, commits-push_none, commits-push_one}
 
 module _ (rules : Rules) (calls : Calls) where
   -- the commit that an event is has its change

@@ -1,11 +1,11 @@
 -- The rules of the first world: its device is one sector, the sub-block of the root directory.
-use Rattle.std.specs.Prelude.{◌≡◌, ℕ, ◌+◌, ◌&&◌, Bool, false, List, [], ◌∷◌, map, fold, slice_get, replicate, Option, Some, None}
+use Rattle.std.specs.Prelude.{◌≡◌, ℕ, ◌+◌, ◌&&◌, Bool, false, List, [], ◌∷◌, map, fold, slice_get, replicate, Some}
 use Rattle.std.specs.FinMap as maps
 use Rattle.ds_base.specs.declared.geometry.Geom.{Geom}
 use Rattle.ds_base.specs.declared.sectors.Sector.{Sector}
 use Rattle.ds_base.specs.Device.{takes_effect}
 use Rattle.ds_base.specs.declared.names.NodeKind.TheVariants as node_kinds
-use Rattle.ds_tree.specs.Nodes.{Entries, Node, Dir, File, Object, FileTree, with_object, with_node, fresh_tree}
+use Rattle.ds_tree.specs.Nodes.{Entries, Dir, File, Object, FileTree, with_object, with_node, fresh_tree}
 use Rattle.ds_tree.specs.FirstForm.{first_geom}
 use Rattle.ds_dir.specs.declared.sub_block.Entry.{Entry}
 use Rattle.ds_dir.specs.declared.sub_block.SubBlock.{SubBlock}

@@ -1,9 +1,8 @@
 -- How the tree of the first world is built from the rooms of its device.
-use Rattle.std.specs.Prelude.{◌≡◌, ℕ, ◌<◌, List, [], ◌∷◌, length, fold, slice_get, Option, Some, None}
+use Rattle.std.specs.Prelude.{◌≡◌, ℕ, ◌<◌, Option, Some, None}
 use Rattle.std.specs.FinMap as maps
 use Rattle.ds_tree.specs.Nodes.{Entries, Dir, FileTree, with_object}
 use Rattle.ds_dir.specs.declared.sub_block.Entry.{Entry}
-use Rattle.ds_host.specs.Rooms.{Rooms}
 use Rattle.ds_world.specs.FirstRules.{with_file}
 
 -- the tree with the file of a room

@@ -1,5 +1,5 @@
 -- What contracts see of the first world, and what holds of it after any turns.
-use Rattle.std.specs.Prelude.{◌≡◌, ◌≢◌, ℕ, ◌+◌, ◌-◌, ◌*◌, ◌≤◌, ◌<◌, ◌⊎◌, nat_lt, Bool, true, false, List, [], ◌∷◌, ◌++◌, length, map, drop, replicate, count_by, slice_get, All, Option, Some, None, MatchOption, if◌then◌else◌}
+use Rattle.std.specs.Prelude.{◌≡◌, ℕ, ◌+◌, ◌-◌, ◌*◌, ◌≤◌, ◌<◌, ◌⊎◌, nat_lt, Bool, true, false, List, [], ◌∷◌, ◌++◌, length, map, drop, replicate, count_by, slice_get, Option, Some, None, MatchOption, if◌then◌else◌}
 use Rattle.ds_base.specs.declared.sectors.Sector.{Sector}
 use Rattle.ds_base.specs.declared.commands.Command.{Command}
 use Rattle.ds_base.specs.declared.commands.Response.{Response}
@@ -24,7 +24,7 @@ use Rattle.ds_host.specs.declared.first_host.RootCall.TheVariants.{Create, Looku
 use Rattle.ds_host.specs.declared.first_host.Stage.{Stage}
 use Rattle.ds_host.specs.declared.first_host.Stage.TheVariants.{Rest, Reading, Filling}
 use Rattle.ds_host.specs.FirstStates.{FirstState}
-use Rattle.ds_host.specs.Rooms.{Rooms, entry_named, with_entry, next_key, file_entry}
+use Rattle.ds_host.specs.Rooms.{entry_named, with_entry, next_key, file_entry}
 use Rattle.ds_host.specs.FirstConduct.{SpellsRooms, tree_call}
 use Rattle.ds_world.specs.declared.logs.Step.TheVariants.{Local, Sent}
 use Rattle.ds_world.specs.declared.logs.Event.{Event}
@@ -36,7 +36,7 @@ use Rattle.ds_world.specs.Store.{store, change_count}
 use Rattle.ds_world.specs.Moments.{AtEveryMoment}
 use Rattle.ds_world.specs.History.{Change, IsWholeOrNot, IsLegal}
 use Rattle.ds_world.specs.Headline.{StandsAfter}
-use Rattle.ds_world.specs.Scripts.{list_of, directive_at, calls_of}
+use Rattle.ds_world.specs.Scripts.{list_of, calls_of}
 use Rattle.ds_world.specs.Follows.{is_event_of, finished, held, Follows}
 use Rattle.ds_world.specs.FirstRules.{NumberedFrom, first_rules, tree_of}
 

@@ -1,5 +1,5 @@
 -- What a log keeps of the file tree, whatever the turns of the hosts.
-use Rattle.std.specs.Prelude.{◌≡◌, ℕ, List, slice_get, Some}
+use Rattle.std.specs.Prelude.{◌≡◌, List, slice_get, Some}
 use Rattle.ds_base.specs.declared.geometry.Geom.{Geom}
 use Rattle.ds_tree.specs.Nodes.{FileTree}
 use Rattle.ds_world.specs.declared.logs.Event.{Event}

@@ -1,11 +1,9 @@
 -- What the hosts of a scenario are to do, with variables as their own replies have bound them.
-use Rattle.std.specs.Prelude.{◌≡◌, ℕ, zero, suc, ◌+◌, ◌-◌, ◌==◌, ◌&&◌, Bool, true, false, nat_lt, List, [], length, map, fold, slice_get, Option, Some, None, if◌then◌else◌}
-use Rattle.std.specs.Option.{option_and_then, option_map}
+use Rattle.std.specs.Prelude.{ℕ, zero, suc, ◌==◌, ◌&&◌, Bool, false, nat_lt, List, [], fold, slice_get, Option, Some, None, if◌then◌else◌}
 use Rattle.std.specs.Str.{bytes_eq}
 use Rattle.ds_base.specs.declared.names.Key.{Key}
 use Rattle.ds_tree.specs.declared.calls.CallOf.{CallOf}
 use Rattle.ds_tree.specs.declared.calls.CallOf.TheVariants as calls
-use Rattle.ds_tree.specs.declared.calls.HostCallOf.{HostCallOf}
 use Rattle.ds_tree.specs.declared.calls.HostCallOf.TheVariants as host_calls
 use Rattle.ds_tree.specs.declared.calls.TreeReply.TheVariants.{Made, Found}
 use Rattle.ds_tree.specs.declared.scenarios.Directive.{Directive}

@@ -7,7 +7,7 @@ use Rattle.ds_image.proofs.parents.reached.Goals as goal
 pub returns : goal.returns
 returns c =
     let seen : c.deref.result.now ≡ c.walks.new.seen = c.deref.ensures.value
-        ∙ take_at c.walks.new.seen _ c.in-Ok.seen.len (c.walks.auto.seen ∙ c.deref_mut.ensures.len) in
+    ∙ take_at c.walks.new.seen _ c.in-Ok.seen.len (c.walks.auto.seen ∙ c.deref_mut.ensures.len) in
     IfOk-both c.reached_by.result _ _ _
     (λ reached count exact. reached-all c.args.parents.now c.walks.new.seen c.in_ok-leads.leads.items reached.items
     c.in_ok-leads.ensures.settled c.in_ok-leads.ensures.count

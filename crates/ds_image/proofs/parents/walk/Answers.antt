@@ -25,6 +25,6 @@ loop-seen-preserved c =
 pub returns : goal.returns
 returns c =
     let met = some-tested (walk_to c.loop-seen.seen c.loop-seen.object) (not c.is_none.result) c.is_none.ensures
-        (ap not c.loop-seen-test.false) in
+    (ap not c.loop-seen-test.false) in
     subst (λ b. AreSettled c.args.parents.now c.loop-seen.seen (c.args.leads.now ++ b ∷ [])) (sym (c.led_by.ensures.some met.0 met.1))
     (walk-meets c.args.parents.now c.args.leads.now c.loop-seen.seen c.loop-seen.object met.0 met.1 c.loop-seen.invariant.1)

@@ -12,4 +12,4 @@ returns c =
     let g = c.args.image.now.geom in
     spelled_at (slice_get c.args.image.now.sectors) (place_sector g (places.Bitmap c.args.kind c.args.cluster)) c.sector_at-sector.result.now
     (IsBits g c.args.kind c.args.cluster) bits_bytes c.decode.result c.sector_at-sector.ensures
-    (subst (λ (h : Geom). IsDecoded c.decode.result (λ b. IsBits h c.args.kind c.args.cluster b × (c.sector_at-sector.result.now.bytes ≡ bits_bytes b))) c.geom.ensures.same c.decode.ensures)
+    (subst (λ (h : Geom). IsDecoded c.decode.result (λ b. IsBits h c.args.kind c.args.cluster b × (c.sector_at-sector.result.now.bytes ≡ bits_bytes b))) c.geom.ensures.value c.decode.ensures)

@@ -12,4 +12,4 @@ loop-number-preserved c =
     reading-more c.loop-number.number (SpellsPtr c.args.image.now.geom (slice_get c.args.image.now.sectors)) _ _ _ more c.loop-number.invariant c.ptr_of.ensures
 
 pub returns : goal.returns
-returns c = reading-all c.loop-number.number _ (SpellsPtr c.args.image.now.geom (slice_get c.args.image.now.sectors)) _ (omega (arith, c.loop-number-test.false, c.loop-number.auto, ap (λ g. items_of g kinds.Pb) c.geom.ensures.same, c.items_of_kind-count.ensures)) c.loop-number.invariant
+returns c = reading-all c.loop-number.number _ (SpellsPtr c.args.image.now.geom (slice_get c.args.image.now.sectors)) _ (omega (arith, c.loop-number-test.false, c.loop-number.auto, ap (λ g. items_of g kinds.Pb) c.geom.ensures.value, c.items_of_kind-count.ensures)) c.loop-number.invariant

@@ -1,5 +1,4 @@
-use Rattle.std.proofs.Common.{◌≡◌, ◌≤◌, List, length, sym, ap, subst, ◌∙◌}
-use Rattle.ds_tree.specs.declared.scenarios.Scenario.{Scenario}
+use Rattle.std.proofs.Common.{◌≡◌, sym, subst, ◌∙◌}
 use Rattle.ds_tree.specs.Nodes.{FileTree}
 use Rattle.ds_world.specs.LogValues.{LogValue}
 use Rattle.ds_world.specs.Store.{store}

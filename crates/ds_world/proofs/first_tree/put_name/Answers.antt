@@ -1,6 +1,6 @@
-use Rattle.std.proofs.Common.{◌≡◌, ◌<◌, ℕ, List, length, sym, ap, subst, ◌∙◌, Some, Option}
+use Rattle.std.proofs.Common.{◌≡◌, ℕ, List, sym, ap, subst, ◌∙◌, Option}
 use Rattle.std.specs.FinMap as maps
-use Rattle.ds_tree.specs.Nodes.{Entries, Dir, FileTree, node_at, with_node}
+use Rattle.ds_tree.specs.Nodes.{Dir, node_at, with_node}
 use Rattle.ds_tree.specs.Trees.{entries_of, rooms_of}
 use Rattle.ds_dir.specs.declared.sub_block.Entry.{Entry}
 use Rattle.ds_world.specs.FirstTrees.{with_name, IsRooted}

@@ -9,11 +9,11 @@ noted : (c : goal.After-self-1) → set c.self.inside.counts.items c.args.object
     ≡ set c.args.self.now c.args.object (risen (slice_index c.args.self.now c.args.object))
 noted c =
     let read = count-read c.self.inside.counts.items c.args.object c.index-count.result.now c.args.self.now
-        c.self.view_is c.requires c.index-count.ensures in
+    c.self.view_is c.requires c.index-count.ensures in
     ap (set c.self.inside.counts.items c.args.object) (c.saturating_add.ensures ∙ ap risen read)
     ∙ ap (λ t. set t c.args.object (risen (slice_index c.args.self.now c.args.object))) c.self.view_is
 
 pub returns-clause-counts : goal.returns-clause-counts
 returns-clause-counts c = λ named few counts.
     subst (λ t. CountsNames t (named ++ c.args.object ∷ [])) (sym (noted c))
-        (counts-more c.args.self.now c.args.object c.requires named few counts)
+    (counts-more c.args.self.now c.args.object c.requires named few counts)

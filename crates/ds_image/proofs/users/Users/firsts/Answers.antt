@@ -9,6 +9,6 @@ pub returns : goal.returns
 returns c =
     c.loop-row.invariant
     ∙ ap (map (λ row. slice_get (known_users row) 0))
-        (take_all c.loop-row.row-index c.deref-row-items.result.now c.loop-row-test.false ∙ c.deref-row-items.ensures.value)
+    (take_all c.loop-row.row-index c.deref-row-items.result.now c.loop-row-test.false ∙ c.deref-row-items.ensures.value)
     ∙ firsts-of-rows c.self.inside.rows.items
     ∙ ap (map (λ (users : List ℕ). slice_get users 0)) c.self.view_is

@@ -13,7 +13,7 @@ noted c =
     ∙ ap (λ t. set t c.args.item (known_users c.with.result)) c.self.view_is
     ∙ ap (set c.args.self.now c.args.item) (c.with.ensures
     ∙ ap (λ l. take 2 (l ++ c.args.object ∷ []))
-        (row-read c.self.inside.rows.items c.args.item c.index-row.result.now c.args.self.now c.self.view_is c.requires c.index-row.ensures))
+    (row-read c.self.inside.rows.items c.args.item c.index-row.result.now c.args.self.now c.self.view_is c.requires c.index-row.ensures))
 
 pub returns-clause-noted : goal.returns-clause-noted
 returns-clause-noted c = noted c

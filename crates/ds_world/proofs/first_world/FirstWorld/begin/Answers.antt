@@ -1,18 +1,15 @@
-use Rattle.std.proofs.Common.{inl, inr, ◌≡◌, ◌+◌, ◌<◌, ◌++◌, ◌∷◌, [], List, true, false, length, refl, sym, ap, subst, ◌∙◌, arith, Some, None, Option}
-use Rattle.ds_base.specs.declared.commands.Command.TheVariants.{Read, Swap}
-use Rattle.ds_host.specs.declared.answers.HostAnswer.{HostAnswer}
-use Rattle.ds_host.specs.declared.first_host.Stage.TheVariants.{Rest, Reading, Filling}
-use Rattle.ds_world.specs.declared.logs.Step.{Step}
+use Rattle.std.proofs.Common.{inr, ◌≡◌, ◌+◌, ◌++◌, ◌∷◌, [], length, refl, sym, ap, subst, ◌∙◌, Some}
+use Rattle.ds_host.specs.declared.first_host.Stage.TheVariants.{Rest}
 use Rattle.ds_world.specs.declared.logs.Event.{Event}
 use Rattle.ds_world.specs.declared.logs.Reply.{Reply}
 use Rattle.ds_world.specs.Scripts.{list_of}
-use Rattle.ds_world.specs.FirstWorlds.{FirstWorldValue, FirstHolds, AddsEvent, sent_event, local_event, reply_now, place_of, turns_at, stepped}
+use Rattle.ds_world.specs.FirstWorlds.{FirstWorldValue, FirstHolds, AddsEvent, local_event, reply_now, place_of, turns_at, stepped}
 use Rattle.ds_world.proofs.FirstSteps.{FirstHolds-as}
-use Rattle.ds_world.proofs.FirstMoves.{short_list, was_due, was_due_filling, may_take_read, may_take_swap, moved-read, moved-swap, IsRead, IsSwapped, GoesOn, IsAnswered, IsCommitted, swap_due, fewer_answered, fewer_filling, fewer_committed}
+use Rattle.ds_world.proofs.FirstMoves.{fewer_answered}
 use Rattle.std.specs.Prelude.{slice_get}
 use Rattle.ds_host.specs.FirstStates.{FirstState}
 use Rattle.ds_world.proofs.Pushes.{get-within}
-use Rattle.ds_world.proofs.FirstMoves.{begun_answered, begun, may_begin, moved-begun, moved-registered}
+use Rattle.ds_world.proofs.FirstMoves.{begun_answered, moved-registered}
 use Rattle.ds_world.proofs.first_world.FirstWorld.begin.Goals as goal
 
 pub invariant_of-self : goal.invariant_of-self

@@ -1,7 +1,6 @@
-use Rattle.std.proofs.Common.{◌≡◌, ℕ, List, length, Some, refl, sym, ap, ◌∙◌}
+use Rattle.std.proofs.Common.{◌≡◌, length, Some, refl, sym, ap, ◌∙◌}
 use Rattle.std.specs.Prelude.{slice_get}
 use Rattle.std.proofs.lemmas.Option.{slice_get_read}
-use Rattle.ds_tree.specs.declared.scenarios.Directive.{Directive}
 use Rattle.ds_world.specs.FirstWorlds.{FirstWorldValue}
 use Rattle.ds_world.proofs.first_world.FirstWorld.call_due.Goals as goal
 

@@ -1,14 +1,13 @@
-use Rattle.std.proofs.Common.{inl, inr, ◌≡◌, ◌+◌, ◌<◌, ◌++◌, ◌∷◌, [], List, true, false, length, refl, sym, ap, subst, ◌∙◌, arith, Some, None, Option}
-use Rattle.ds_base.specs.declared.commands.Command.TheVariants.{Read, Swap}
+use Rattle.std.proofs.Common.{inr, ◌≡◌, ◌+◌, ◌++◌, ◌∷◌, [], true, false, length, refl, sym, ap, subst, ◌∙◌, Option}
+use Rattle.ds_base.specs.declared.commands.Command.TheVariants.{Swap}
 use Rattle.ds_host.specs.declared.answers.HostAnswer.{HostAnswer}
-use Rattle.ds_host.specs.declared.first_host.Stage.TheVariants.{Rest, Reading, Filling}
-use Rattle.ds_world.specs.declared.logs.Step.{Step}
+use Rattle.ds_host.specs.declared.first_host.Stage.TheVariants.{Filling}
 use Rattle.ds_world.specs.declared.logs.Event.{Event}
 use Rattle.ds_world.specs.declared.logs.Reply.{Reply}
 use Rattle.ds_world.specs.Scripts.{list_of}
 use Rattle.ds_world.specs.FirstWorlds.{FirstWorldValue, FirstHolds, AddsEvent, sent_event, reply_now, place_of, turns_at, stepped}
 use Rattle.ds_world.proofs.FirstSteps.{FirstHolds-as}
-use Rattle.ds_world.proofs.FirstMoves.{short_list, was_due, was_due_filling, may_take_read, may_take_swap, moved-read, moved-swap, IsRead, IsSwapped, GoesOn, IsAnswered, IsCommitted, swap_due, fewer_answered, fewer_filling, fewer_committed}
+use Rattle.ds_world.proofs.FirstMoves.{was_due_filling, moved-swap, IsSwapped, IsCommitted, swap_due, fewer_committed}
 use Rattle.ds_base.specs.declared.commands.Command.{Command}
 use Rattle.ds_base.specs.Device.{Answers, stored}
 use Rattle.ds_world.proofs.first_world.FirstWorld.swap.Goals as goal

@@ -1,6 +1,5 @@
-use Rattle.std.proofs.Common.{◌≡◌, List, ap, subst, Some}
+use Rattle.std.proofs.Common.{◌≡◌, List, subst, Some}
 use Rattle.std.specs.Prelude.{slice_get}
-use Rattle.ds_base.specs.declared.sectors.Sector.{Sector}
 use Rattle.ds_tree.specs.Nodes.{FileTree}
 use Rattle.ds_tree.specs.FirstForm.{first_geom}
 use Rattle.ds_tree.specs.WellFormed.{IsTree}

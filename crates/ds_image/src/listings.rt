@@ -1,0 +1,198 @@
+//! What the descriptors of an image list.
+ghost use Rattle.std.specs.Prelude.{◌≡◌, ◌++◌, take, map, IfOk, OnOk};
+ghost use Rattle.std.specs.List.{flat_map, filter_map};
+ghost use Rattle.ds_tree.specs.Counts.{pointer_blocks};
+ghost use Rattle.ds_image.specs.Objects.{subs_of, ptrs_of, blocks_of, addresses_in, rooms_in, used_rooms};
+ghost use Rattle.ds_image.specs.Parts.{part_at};
+ghost use Rattle.ds_image.specs.Listings.{named_by, listed_by};
+
+use crate::parts::PartsInMemory;
+use ds_base::{Name, NoMemory, NodeKind};
+use ds_dir::Entry;
+use ds_fd::Body;
+use std::alloc::Global;
+
+/// What a descriptor may list: a directory its sub-blocks and, in their entries, objects; a file its pointer blocks and its
+/// blocks.
+#[derive(Clone, Copy, Debug, PartialEq, Eq)]
+pub enum Listed {
+    Subs,
+    Ptrs,
+    Blocks,
+    Names,
+}
+
+/// What a descriptor lists.
+pub(crate) fn list_of(
+    alloc: Global,
+    parts: &PartsInMemory,
+    what: Listed,
+    body: &Option<Body>,
+) -> Result<Vec<u32>, NoMemory>
+    ensures { IfOk result (λ v. v.items ≡ listed_by parts.now what body.now) }
+{
+    match what {
+        Listed::Subs => copied(alloc, subs_of(body)),
+        Listed::Ptrs => copied(alloc, ptrs_of(body)),
+        Listed::Blocks => blocks_of(alloc, parts, body),
+        Listed::Names => named_by(alloc, parts, body),
+    }
+}
+
+fn copied(alloc: Global, items: &[u32]) -> Result<Vec<u32>, NoMemory>
+    ensures { IfOk result (λ v. v.items ≡ items.now) }
+{
+    items.to_vec(alloc).map_err(|_| NoMemory)
+}
+
+/// The first numbers of a list; all, where there are fewer.
+#[tactic(auto, using(std::proofs::lemmas::List::take_min))]
+fn first(numbers: &[u32], count: usize) -> &[u32]
+    ensures { result.now ≡ take count numbers.now }
+{
+    &numbers[..count.min(numbers.len())]
+}
+
+/// The sub-blocks that a directory lists; none of anything else.
+pub(crate) fn subs_of(body: &Option<Body>) -> &[u32]
+    ensures { result.now ≡ subs_of body.now }
+{
+    let Some(body) = body else {
+        return &[];
+    };
+    match body.kind {
+        Some(NodeKind::Dir) => first(&body.addresses, body.count as usize),
+        _ => &[],
+    }
+}
+
+/// The pointer blocks that a file lists; none of anything else.
+pub(crate) fn ptrs_of(body: &Option<Body>) -> &[u32]
+    ensures { result.now ≡ ptrs_of body.now }
+{
+    let Some(body) = body else {
+        return &[];
+    };
+    match body.kind {
+        Some(NodeKind::File) => first(&body.addresses, pointer_blocks(body.count)),
+        _ => &[],
+    }
+}
+
+fn pointer_blocks(count: u32) -> usize
+    ensures { result ≡ pointer_blocks count }
+{
+    if count <= 96 {
+        return 0;
+    }
+    count.div_ceil(128) as usize
+}
+
+/// The addresses in pointer blocks, one block after another.
+pub(crate) fn pointed_by(
+    alloc: Global,
+    parts: &PartsInMemory,
+    ptrs: &[u32],
+) -> Result<Vec<u32>, NoMemory>
+    ensures { IfOk result (λ v. v.items ≡ flat_map (λ n. addresses_in (part_at parts.now.ptrs n)) ptrs.now) }
+{
+    let mut addresses = Vec::new(alloc);
+    for number in ptrs {
+        addresses
+            .extend_from_slice(addresses_in(parts, *number))
+            .map_err(|_| NoMemory)?;
+    }
+    Ok(addresses)
+}
+
+fn addresses_in(parts: &PartsInMemory, number: u32) -> &[u32]
+    ensures { result.now ≡ addresses_in (part_at parts.now.ptrs number) }
+{
+    match parts.ptrs().get(number as usize) {
+        Some(Some(block)) => &block.addresses,
+        _ => &[],
+    }
+}
+
+/// The blocks of a file; none of anything else.
+pub(crate) fn blocks_of(
+    alloc: Global,
+    parts: &PartsInMemory,
+    body: &Option<Body>,
+) -> Result<Vec<u32>, NoMemory>
+    ensures { IfOk result (λ v. v.items ≡ blocks_of parts.now body.now) }
+{
+    let Some(it) = body else {
+        return Ok(Vec::new(alloc));
+    };
+    if it.kind != Some(NodeKind::File) {
+        return Ok(Vec::new(alloc));
+    }
+    let count = it.count as usize;
+    if it.count <= 96 {
+        return copied(alloc, first(&it.addresses, count));
+    }
+    let mut blocks = pointed_by(alloc, parts, ptrs_of(body))?;
+    blocks.truncate(count);
+    Ok(blocks)
+}
+
+/// The objects that a directory names; none of anything else.
+fn named_by(alloc: Global, parts: &PartsInMemory, body: &Option<Body>) -> Result<Vec<u32>, NoMemory>
+    ensures { IfOk result (λ v. v.items ≡ named_by parts.now body.now) }
+{
+    let entries = entries_in(alloc, parts, subs_of(body))?;
+    entries
+        .iter()
+        .map(|e| e.key.object)
+        .collect(alloc)
+        .map_err(|_| NoMemory)
+}
+
+/// The entries in the used rooms of sub-blocks.
+pub(crate) fn entries_in(
+    alloc: Global,
+    parts: &PartsInMemory,
+    subs: &[u32],
+) -> Result<Vec<Entry>, NoMemory>
+    ensures { IfOk result (λ v. v.items ≡ used_rooms parts.now subs.now) }
+{
+    let mut entries = Vec::new(alloc);
+    for number in subs {
+        push_entries(&mut entries, rooms_in(parts, *number))?;
+    }
+    Ok(entries)
+}
+
+fn rooms_in(parts: &PartsInMemory, number: u32) -> &[Option<Entry>]
+    ensures { result.now ≡ rooms_in (part_at parts.now.subs number) }
+{
+    match parts.subs().get(number as usize) {
+        Some(Some(block)) => &block.rooms,
+        _ => &[],
+    }
+}
+
+/// Puts the entries in used rooms behind others.
+fn push_entries(entries: &mut Vec<Entry>, rooms: &[Option<Entry>]) -> Result<(), NoMemory>
+    ensures { OnOk result (entries.new.items ≡ entries.old.items ++ filter_map (λ room. room) rooms.now) }
+{
+    for room in rooms {
+        if let Some(entry) = room {
+            entries.push(copy_of(entry)?).map_err(|_| NoMemory)?;
+        }
+    }
+    Ok(())
+}
+
+fn copy_of(entry: &Entry) -> Result<Entry, NoMemory>
+    ensures { IfOk result (λ copy. copy ≡ entry.now) }
+{
+    entry.clone().map_err(|_| NoMemory)
+}
+
+pub(crate) fn copy_of_name(name: &Name) -> Result<Name, NoMemory>
+    ensures { IfOk result (λ copy. copy ≡ name.now) }
+{
+    name.clone().map_err(|_| NoMemory)
+}
