@@ -8,6 +8,7 @@ pub mod MetNames
 pub mod NamedOnce
 pub mod NamedRooms
 pub mod NamingParents
+pub mod NoBad
 pub mod NoFinds
 pub mod Pending
 pub mod Reading

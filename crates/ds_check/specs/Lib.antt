@@ -9,3 +9,4 @@ pub mod Lost
 pub mod Findings
 pub mod Texts
 pub mod Volumes
+pub mod Checks

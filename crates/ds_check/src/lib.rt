@@ -2,6 +2,8 @@
 #![tactic(auto)]
 
 mod addresses;
+mod bits;
+mod checking;
 mod controls;
 mod findings;
 mod fronts;
@@ -22,5 +24,6 @@ mod texts;
 mod uses;
 mod volumes;
 
+pub use checking::{CheckFault, check};
 pub use findings::Find;
 pub use reports::Report;
