@@ -1,5 +1,17 @@
+pub mod EntryRooms
 pub mod FirstFound
+pub mod ItemMarks
+pub mod ItemUsers
+pub mod LastAddresses
+pub mod LostObjects
+pub mod MetNames
+pub mod NamedOnce
+pub mod NamedRooms
+pub mod NamingParents
+pub mod NoBad
+pub mod NoFinds
 pub mod Pending
 pub mod Reading
 pub mod Rows
+pub mod TreeRooms
 pub mod VolumeInfo

@@ -27,12 +27,18 @@ pub record AreLost (p : Parts) (finds : List Find) : Type 0 where
   pub rising : IsStrictlyIncreasing objects
   pub exact : (o : ℕ) → Contains objects o ↔ IsLost p o
 
+-- these findings, where there are any, and else those of the last stage
+abbrev pub AreFoundOrLost : Parts → List Find → List Find → Type 0
+AreFoundOrLost p [] finds = AreLost p finds
+AreFoundOrLost p (first ∷ more) finds = finds ≡ first ∷ more
+
+-- the findings of the first of the stages before the last that has any
+abbrev pub found_in : Geom → Parts → List Find
+found_in g p = first_found (metadata_stage g p ∷ addresses_stage g p ∷ sharing_stage g p ∷ marking_stage g p ∷ naming_stage g p ∷ [])
+
 -- what is found in the parts of a logical image
-pub record AreFoundIn (g : Geom) (p : Parts) (finds : List Find) : Type 0 where
-  pub lost : List Find
-  pub are_lost : AreLost p lost
-  pub first : finds ≡ first_found (metadata_stage g p ∷ addresses_stage g p ∷ sharing_stage g p ∷ marking_stage g p
-      ∷ naming_stage g p ∷ lost ∷ [])
+abbrev pub AreFoundIn : Geom → Parts → List Find → Type 0
+AreFoundIn g p finds = AreFoundOrLost p (found_in g p) finds
 
 -- what is found in the logical image of these sectors
 pub record AreFoundBehind (g : Geom) (sectors : List Sector) (finds : List Find) : Type 0 where

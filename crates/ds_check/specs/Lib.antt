@@ -3,6 +3,10 @@ pub mod Rows
 pub mod Marks
 pub mod Journals
 pub mod Objects
+pub mod Addresses
+pub mod Naming
+pub mod Lost
 pub mod Findings
 pub mod Texts
 pub mod Volumes
+pub mod Checks

@@ -94,7 +94,7 @@ is_bad_address g p b (Some kinds.File) i =
     || is_first_past p b i
 
 -- the most addresses that a body has, those in its pointer blocks among them
-abbrev pub most_addresses : ℕ
+unfoldable pub most_addresses : ℕ
 most_addresses = 96 * 128
 
 abbrev pub address_finds : Geom → Parts → ℕ → Option Body → List Find

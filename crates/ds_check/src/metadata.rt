@@ -102,7 +102,7 @@ fn note_body(
 }
 
 /// Whether the sector of a part spells none.
-fn is_unread<T>(parts: &[Option<T>], number: usize) -> bool
+pub(crate) fn is_unread<T>(parts: &[Option<T>], number: usize) -> bool
     ensures { result ≡ is_none (part_at parts.now number) }
 {
     match parts.get(number) {

@@ -1,0 +1,6 @@
+-- The numbers so far are zero.
+use Rattle.std.proofs.Common.{◌≡◌, ℕ, ◌<◌, get_or}
+use Rattle.ds_check.proofs.addresses.first_used.Given as goal
+
+abbrev pub invariant-loop-i : goal.invariant-loop-i
+invariant-loop-i l = (k : ℕ) → k < l.i → get_or l.numbers k 0 ≡ 0

@@ -1,0 +1,8 @@
+-- The findings of the addresses so far are noted.
+use Rattle.std.proofs.Common.{◌≡◌, ◌++◌}
+use Rattle.ds_check.specs.Addresses.{address_at}
+use Rattle.ds_check.specs.Rows.{row}
+use Rattle.ds_check.proofs.addresses.note_body.Given as goal
+
+abbrev pub invariant-loop-index : goal.invariant-loop-index
+invariant-loop-index l = l.report ≡ l.initial.report ++ row l.index (address_at l.geom l.parts l.object l.body)

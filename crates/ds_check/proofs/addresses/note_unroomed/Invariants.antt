@@ -1,0 +1,10 @@
+-- The findings of the numbers so far are noted.
+use Rattle.std.proofs.Common.{◌≡◌, ◌++◌}
+use Rattle.ds_image.specs.Objects.{subs_of}
+use Rattle.ds_image.specs.Parts.{part_at}
+use Rattle.ds_check.specs.Objects.{room_finds}
+use Rattle.ds_check.specs.Rows.{row}
+use Rattle.ds_check.proofs.addresses.note_unroomed.Given as goal
+
+abbrev pub invariant-loop-object : goal.invariant-loop-object
+invariant-loop-object l = l.report ≡ l.initial.report ++ row l.object (λ o. room_finds l.geom l.parts o (subs_of (part_at l.parts.bodies o)))

@@ -1,0 +1,186 @@
+//! The check of sectors.
+ghost use Rattle.std.specs.Prelude.{◌≡◌, [], ◌∷◌, OnOk, IfOk, IfErr, length};
+ghost use Rattle.ds_base.specs.Geometry.{IsGeom, items_of};
+ghost use Rattle.ds_image.specs.BadSectors.{HasNoBad};
+ghost use Rattle.ds_layout.specs.Places.{total_of};
+ghost use Rattle.ds_check.specs.Checks.{AreFindingsOf, IsCheckFault};
+ghost use Rattle.ds_check.specs.Findings.{found_in, AreFindings, AreFoundBehind, AreFoundIn, AreFoundOrLost};
+ghost use Rattle.ds_check.specs.Objects.{metadata_stage, addresses_stage, sharing_stage, marking_stage, naming_stage};
+ghost use Rattle.ds_check.specs.Rows.{first_found};
+
+use crate::addresses::note_addresses;
+use crate::bits::bits_in;
+use crate::fronts::found_in_front;
+use crate::lost::note_lost;
+use crate::marking::note_marking;
+use crate::metadata::note_metadata;
+use crate::naming::note_naming;
+use crate::reports::Report;
+use crate::sharing::note_sharing;
+use crate::volumes::volume_in;
+use ds_base::{Geom, Kind, NoMemory, Sector, SectorNo};
+use ds_image::{ImageFault, PartsInMemory, overlay};
+use std::alloc::Global;
+use thiserror::Error;
+use uuid::Uuid;
+
+/// Why sectors aren't checked: want of memory, or they aren't those of a volume. Then `sector` is 0 where sector 0 doesn't spell
+/// a volume, and else the first that is missing or one too many.
+#[derive(Clone, Copy, Debug, PartialEq, Eq, Error)]
+pub enum CheckFault {
+    #[error("there was too little memory")]
+    NoMemory,
+    #[error("the image is bad at sector {sector}")]
+    BadImage { sector: SectorNo },
+}
+
+/// What is at odds in the sectors of a volume: the findings of the first stage that has any.
+pub fn check(alloc: Global, sectors: &[Sector]) -> Result<Report, CheckFault>
+    ensures findings { IfOk result (AreFindingsOf sectors.now) }
+    ensures fault { IfErr result (IsCheckFault sectors.now) }
+{
+    match volume_in(sectors) {
+        Err(sector) => Err(CheckFault::BadImage { sector }),
+        Ok((geom, id)) => match check_volume(alloc, &geom, id, sectors) {
+            Err(_) => Err(CheckFault::NoMemory),
+            Ok(report) => Ok(report),
+        },
+    }
+}
+
+/// The findings of a volume of this geometry and this id.
+fn check_volume(
+    alloc: Global,
+    geom: &Geom,
+    id: Uuid,
+    sectors: &[Sector],
+) -> Result<Report, NoMemory>
+    requires geom { IsGeom geom.now }
+    requires size { length sectors.now ≡ total_of geom.now }
+    ensures { IfOk result (AreFindings geom.now id sectors.now) }
+{
+    let front = found_in_front(alloc, geom, id, sectors)?;
+    if front.is_empty() {
+        found_behind(alloc, geom, sectors)
+    } else {
+        Ok(front)
+    }
+}
+
+/// What is found in the logical image.
+fn found_behind(alloc: Global, geom: &Geom, sectors: &[Sector]) -> Result<Report, NoMemory>
+    requires geom { IsGeom geom.now }
+    requires size { length sectors.now ≡ total_of geom.now }
+    requires good { HasNoBad geom.now sectors.now }
+    ensures { IfOk result (AreFoundBehind geom.now sectors.now) }
+{
+    match overlay(alloc, geom, &sectors) {
+        Err(ImageFault::NoMemory) => Err(NoMemory),
+        Err(ImageFault::Bad { .. }) => unreachable!(),
+        Ok(image) => {
+            let parts = PartsInMemory::read(alloc, &image)?;
+            found_in(alloc, geom, &parts)
+        }
+    }
+}
+
+/// What is found in the parts of the logical image.
+fn found_in(alloc: Global, geom: &Geom, parts: &PartsInMemory) -> Result<Report, NoMemory>
+    requires geom { IsGeom geom.now }
+    requires count { length parts.now.bodies ≡ items_of geom.now Kind.Fd }
+    ensures { IfOk result (AreFoundIn geom.now parts.now) }
+{
+    let mut report = Report::new(alloc);
+    note_metadata(&mut report, geom, parts)?;
+    note_addresses_next(&mut report, geom, parts)?;
+    note_sharing_next(&mut report, alloc, geom, parts)?;
+    note_marking_next(&mut report, alloc, geom, parts)?;
+    note_naming_next(&mut report, alloc, geom, parts)?;
+    note_lost_next(&mut report, alloc, geom, parts)?;
+    Ok(report)
+}
+
+/// Notes what is at odds in addresses and rooms, where nothing was found before.
+fn note_addresses_next(
+    report: &mut Report,
+    geom: &Geom,
+    parts: &PartsInMemory,
+) -> Result<(), NoMemory>
+    ensures { OnOk result (report.new ≡ first_found (report.old ∷ addresses_stage geom.now parts.now ∷ [])) }
+{
+    if report.is_empty() {
+        note_addresses(report, geom, parts)
+    } else {
+        Ok(())
+    }
+}
+
+/// Notes the items that are listed twice, where nothing was found before.
+fn note_sharing_next(
+    report: &mut Report,
+    alloc: Global,
+    geom: &Geom,
+    parts: &PartsInMemory,
+) -> Result<(), NoMemory>
+    ensures { OnOk result (report.new ≡ first_found (report.old ∷ sharing_stage geom.now parts.now ∷ [])) }
+{
+    if report.is_empty() {
+        note_sharing(report, alloc, geom, parts)
+    } else {
+        Ok(())
+    }
+}
+
+/// Notes the items whose bits differ from their use, where nothing was found before.
+fn note_marking_next(
+    report: &mut Report,
+    alloc: Global,
+    geom: &Geom,
+    parts: &PartsInMemory,
+) -> Result<(), NoMemory>
+    ensures { OnOk result (report.new ≡ first_found (report.old ∷ marking_stage geom.now parts.now ∷ [])) }
+{
+    if !report.is_empty() {
+        return Ok(());
+    }
+    let fds = bits_in(alloc, parts.maps(Kind::Fd))?;
+    let sbs = bits_in(alloc, parts.maps(Kind::Sb))?;
+    let pbs = bits_in(alloc, parts.maps(Kind::Pb))?;
+    let fbs = bits_in(alloc, parts.maps(Kind::Fb))?;
+    note_marking(report, alloc, geom, parts, &fds, &sbs, &pbs, &fbs)
+}
+
+/// Notes what is at odds in entries and names, where nothing was found before.
+fn note_naming_next(
+    report: &mut Report,
+    alloc: Global,
+    geom: &Geom,
+    parts: &PartsInMemory,
+) -> Result<(), NoMemory>
+    requires { IsGeom geom.now }
+    ensures { OnOk result (report.new ≡ first_found (report.old ∷ naming_stage geom.now parts.now ∷ [])) }
+{
+    if report.is_empty() {
+        note_naming(report, alloc, geom, parts)
+    } else {
+        Ok(())
+    }
+}
+
+/// Notes the objects that are lost, where nothing was found before.
+fn note_lost_next(
+    report: &mut Report,
+    alloc: Global,
+    geom: &Geom,
+    parts: &PartsInMemory,
+) -> Result<(), NoMemory>
+    requires count { length parts.now.bodies ≡ items_of geom.now Kind.Fd }
+    requires found { report.old ≡ found_in geom.now parts.now }
+    ensures { OnOk result (AreFoundOrLost parts.now report.old report.new) }
+{
+    if report.is_empty() {
+        note_lost(report, alloc, geom, parts)
+    } else {
+        Ok(())
+    }
+}

@@ -1,0 +1,133 @@
+//! The items that the objects of an image list.
+ghost use Rattle.std.specs.Prelude.{◌≡◌, take, IfOk};
+ghost use Rattle.std.specs.List.{flat_map};
+ghost use Rattle.ds_tree.specs.Counts.{pointer_blocks};
+ghost use Rattle.ds_image.specs.Objects.{subs_of, ptrs_of, blocks_of, addresses_in};
+ghost use Rattle.ds_image.specs.Parts.{part_at};
+ghost use Rattle.ds_check.specs.Objects.{listed_by};
+
+use ds_base::{Kind, NoMemory, NodeKind, ObjNo};
+use ds_fd::Body;
+use ds_image::PartsInMemory;
+use std::alloc::Global;
+
+/// The body of an object; none of an object past the last.
+pub(crate) fn body_at(parts: &PartsInMemory, object: ObjNo) -> &Option<Body>
+    ensures { result.now ≡ part_at parts.now.bodies object }
+{
+    match parts.bodies().get(object as usize) {
+        Some(body) => body,
+        None => &None,
+    }
+}
+
+/// The items of a kind that an object lists.
+pub(crate) fn listed_by(
+    alloc: Global,
+    parts: &PartsInMemory,
+    kind: Kind,
+    body: &Option<Body>,
+) -> Result<Vec<u32>, NoMemory>
+    ensures { IfOk result (λ v. v.items ≡ listed_by parts.now kind body.now) }
+{
+    match kind {
+        Kind::Fd => Ok(Vec::new(alloc)),
+        Kind::Sb => copied(alloc, subs_of(body)),
+        Kind::Pb => copied(alloc, ptrs_of(body)),
+        Kind::Fb => blocks_of(alloc, parts, body),
+    }
+}
+
+fn copied(alloc: Global, items: &[u32]) -> Result<Vec<u32>, NoMemory>
+    ensures { IfOk result (λ v. v.items ≡ items.now) }
+{
+    items.to_vec(alloc).map_err(|_| NoMemory)
+}
+
+/// The first numbers of a list; all, where there are fewer.
+#[tactic(auto, using(std::proofs::lemmas::List::take_min))]
+pub(crate) fn first(numbers: &[u32], count: usize) -> &[u32]
+    ensures { result.now ≡ take count numbers.now }
+{
+    &numbers[..count.min(numbers.len())]
+}
+
+/// The sub-blocks that a directory lists; none of anything else.
+pub(crate) fn subs_of(body: &Option<Body>) -> &[u32]
+    ensures { result.now ≡ subs_of body.now }
+{
+    let Some(body) = body else {
+        return &[];
+    };
+    match body.kind {
+        Some(NodeKind::Dir) => first(&body.addresses, body.count as usize),
+        _ => &[],
+    }
+}
+
+/// The pointer blocks that a file lists; none of anything else.
+pub(crate) fn ptrs_of(body: &Option<Body>) -> &[u32]
+    ensures { result.now ≡ ptrs_of body.now }
+{
+    let Some(body) = body else {
+        return &[];
+    };
+    match body.kind {
+        Some(NodeKind::File) => first(&body.addresses, pointer_blocks(body.count)),
+        _ => &[],
+    }
+}
+
+pub(crate) fn pointer_blocks(count: u32) -> usize
+    ensures { result ≡ pointer_blocks count }
+{
+    if count <= 96 {
+        return 0;
+    }
+    count.div_ceil(128) as usize
+}
+
+/// The blocks of a file; none of anything else.
+fn blocks_of(
+    alloc: Global,
+    parts: &PartsInMemory,
+    body: &Option<Body>,
+) -> Result<Vec<u32>, NoMemory>
+    ensures { IfOk result (λ v. v.items ≡ blocks_of parts.now body.now) }
+{
+    let Some(it) = body else {
+        return Ok(Vec::new(alloc));
+    };
+    if it.kind != Some(NodeKind::File) {
+        return Ok(Vec::new(alloc));
+    }
+    let count = it.count as usize;
+    if it.count <= 96 {
+        return copied(alloc, first(&it.addresses, count));
+    }
+    let mut blocks = pointed_by(alloc, parts, ptrs_of(body))?;
+    blocks.truncate(count);
+    Ok(blocks)
+}
+
+/// The addresses in pointer blocks, one block after another.
+fn pointed_by(alloc: Global, parts: &PartsInMemory, ptrs: &[u32]) -> Result<Vec<u32>, NoMemory>
+    ensures { IfOk result (λ v. v.items ≡ flat_map (λ n. addresses_in (part_at parts.now.ptrs n)) ptrs.now) }
+{
+    let mut addresses = Vec::new(alloc);
+    for number in ptrs {
+        addresses
+            .extend_from_slice(addresses_in(parts, *number))
+            .map_err(|_| NoMemory)?;
+    }
+    Ok(addresses)
+}
+
+pub(crate) fn addresses_in(parts: &PartsInMemory, number: u32) -> &[u32]
+    ensures { result.now ≡ addresses_in (part_at parts.now.ptrs number) }
+{
+    match parts.ptrs().get(number as usize) {
+        Some(Some(block)) => &block.addresses,
+        _ => &[],
+    }
+}

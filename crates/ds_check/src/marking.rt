@@ -1,0 +1,212 @@
+//! The sixth stage of a check: items whose bits differ from their use.
+ghost use Rattle.std.specs.Prelude.{◌≡◌, ◌++◌, ◌&&◌, not, nat_lt, length, map, OnOk, IfOk};
+ghost use Rattle.std.specs.List.{range_with_len};
+ghost use Rattle.ds_base.specs.Geometry.{items_of};
+ghost use Rattle.ds_image.specs.Objects.{is_used};
+ghost use Rattle.ds_image.specs.Owns.{bit};
+ghost use Rattle.ds_image.specs.Parts.{part_at, bits_in, maps_of};
+ghost use Rattle.ds_image.specs.Users.{users};
+ghost use Rattle.ds_check.specs.declared.findings.Find.TheVariants as finds;
+ghost use Rattle.ds_check.specs.Objects.{uses_of, is_in_use, mismarked, marking_stage};
+ghost use Rattle.ds_check.specs.Rows.{find_if, row};
+
+use crate::controls::descriptor_count;
+use crate::findings::Find;
+use crate::listed::body_at;
+use crate::reports::Report;
+use crate::uses::{item_count, users_of};
+use ds_base::{Geom, Kind, NoMemory};
+use ds_fd::Body;
+use ds_image::PartsInMemory;
+use std::alloc::Global;
+
+/// Notes the items that are marked and not used, or used and not marked, kind by kind; the lists are the bits of each kind's bitmaps.
+pub(crate) fn note_marking(
+    report: &mut Report,
+    alloc: Global,
+    geom: &Geom,
+    parts: &PartsInMemory,
+    fd_bits: &[bool],
+    sb_bits: &[bool],
+    pb_bits: &[bool],
+    fb_bits: &[bool],
+) -> Result<(), NoMemory>
+    requires fds { fd_bits.now ≡ bits_in parts.now.fd_maps }
+    requires sbs { sb_bits.now ≡ bits_in parts.now.sb_maps }
+    requires pbs { pb_bits.now ≡ bits_in parts.now.pb_maps }
+    requires fbs { fb_bits.now ≡ bits_in parts.now.fb_maps }
+    ensures { OnOk result (report.new ≡ report.old ++ marking_stage geom.now parts.now) }
+{
+    note_mismarked(report, alloc, geom, parts, Kind::Fd, fd_bits)?;
+    note_mismarked(report, alloc, geom, parts, Kind::Sb, sb_bits)?;
+    note_mismarked(report, alloc, geom, parts, Kind::Pb, pb_bits)?;
+    note_mismarked(report, alloc, geom, parts, Kind::Fb, fb_bits)
+}
+
+fn note_mismarked(
+    report: &mut Report,
+    alloc: Global,
+    geom: &Geom,
+    parts: &PartsInMemory,
+    kind: Kind,
+    marked: &[bool],
+) -> Result<(), NoMemory>
+    requires { marked.now ≡ bits_in (maps_of parts.now kind) }
+    ensures { OnOk result (report.new ≡ report.old ++ mismarked geom.now parts.now kind) }
+{
+    let used = used_of(alloc, geom, parts, kind)?;
+    note_marked(report, geom, kind, marked, &used)?;
+    note_unmarked(report, geom, kind, marked, &used)
+}
+
+fn note_marked(
+    report: &mut Report,
+    geom: &Geom,
+    kind: Kind,
+    marked: &[bool],
+    used: &[bool],
+) -> Result<(), NoMemory>
+    ensures { OnOk result (report.new ≡ report.old
+        ++ row (items_of geom.now kind) (λ n. find_if (bit marked.now n && not (bit used.now n)) (finds.Marked kind n))) }
+{
+    for item in 0..item_count(geom, kind) {
+        report.note_if(is_only_in(marked, used, item), Find::Marked { kind, item })?;
+    }
+    Ok(())
+}
+
+fn note_unmarked(
+    report: &mut Report,
+    geom: &Geom,
+    kind: Kind,
+    marked: &[bool],
+    used: &[bool],
+) -> Result<(), NoMemory>
+    ensures { OnOk result (report.new ≡ report.old
+        ++ row (items_of geom.now kind) (λ n. find_if (bit used.now n && not (bit marked.now n)) (finds.Unmarked kind n))) }
+{
+    for item in 0..item_count(geom, kind) {
+        report.note_if(
+            is_only_in(used, marked, item),
+            Find::Unmarked { kind, item },
+        )?;
+    }
+    Ok(())
+}
+
+/// Whether an item's bit is set in the first list alone.
+fn is_only_in(bits: &[bool], others: &[bool], item: u32) -> bool
+    ensures { result ≡ (bit bits.now item && not (bit others.now item)) }
+{
+    bit(bits, item) && !bit(others, item)
+}
+
+/// An item's bit; those past the last are clear.
+fn bit(bits: &[bool], item: u32) -> bool
+    ensures { result ≡ bit bits.now item }
+{
+    bits.get(item as usize) == Some(&true)
+}
+
+/// For each item of a kind, whether it is used.
+fn used_of(
+    alloc: Global,
+    geom: &Geom,
+    parts: &PartsInMemory,
+    kind: Kind,
+) -> Result<Vec<bool>, NoMemory>
+    ensures { IfOk result (λ v. v.items ≡ map (is_in_use geom.now parts.now kind) (range_with_len 0 (items_of geom.now kind))) }
+{
+    match kind {
+        Kind::Fd => descriptors_in_use(alloc, geom, parts),
+        Kind::Sb => listed_items(alloc, geom, parts, Kind::Sb),
+        Kind::Pb => listed_items(alloc, geom, parts, Kind::Pb),
+        Kind::Fb => listed_items(alloc, geom, parts, Kind::Fb),
+    }
+}
+
+/// For each descriptor, whether it is in use.
+fn descriptors_in_use(
+    alloc: Global,
+    geom: &Geom,
+    parts: &PartsInMemory,
+) -> Result<Vec<bool>, NoMemory>
+    ensures { IfOk result (λ v. v.items
+        ≡ map (λ n. is_used (part_at parts.now.bodies n)) (range_with_len 0 (items_of geom.now Kind.Fd))) }
+{
+    let mut used = Vec::new(alloc);
+    for object in 0..descriptor_count(geom) {
+        used.push(is_used(body_at(parts, object)))
+            .map_err(|_| NoMemory)?;
+    }
+    Ok(used)
+}
+
+fn is_used(body: &Option<Body>) -> bool
+    ensures { result ≡ is_used body.now }
+{
+    match body {
+        Some(body) => body.kind.is_some(),
+        None => false,
+    }
+}
+
+/// For each item of a kind, whether an object lists it.
+fn listed_items(
+    alloc: Global,
+    geom: &Geom,
+    parts: &PartsInMemory,
+    kind: Kind,
+) -> Result<Vec<bool>, NoMemory>
+    ensures { IfOk result (λ v. v.items
+        ≡ map (λ n. nat_lt 0 (length (users (uses_of geom.now parts.now kind) n))) (range_with_len 0 (items_of geom.now kind))) }
+{
+    let users = users_of(alloc, geom, parts, kind)?;
+    let mut used = Vec::new(alloc);
+    for item in 0..item_count(geom, kind) {
+        used.push(users.first(item).is_some())
+            .map_err(|_| NoMemory)?;
+    }
+    Ok(used)
+}
+
+#[cfg(test)]
+mod tests {
+    use super::*;
+    use crate::small_volume::{SMALL, parts};
+    use std::test::Fail;
+
+    #[test]
+    fn a_descriptor_is_used_by_its_kind_and_another_item_by_its_users(
+        rt: HostRuntime,
+    ) -> Result<(), Fail> {
+        let alloc = rt.alloc();
+        let parts = parts(alloc)?;
+        let descriptors = used_of(alloc, &SMALL, &parts, Kind::Fd)?;
+        assert_eq!(rt;
+            descriptors.as_slice(),
+            [true, true, true, true, false].as_slice()
+        );
+        let subs = used_of(alloc, &SMALL, &parts, Kind::Sb)?;
+        assert_eq!(rt; subs.as_slice(), [false, true, false].as_slice());
+        let ptrs = used_of(alloc, &SMALL, &parts, Kind::Pb)?;
+        assert_eq!(rt; ptrs.as_slice(), [false, true].as_slice());
+        let blocks = used_of(alloc, &SMALL, &parts, Kind::Fb)?;
+        assert_eq!(rt; blocks.as_slice(), [true, false, true].as_slice());
+        Ok(())
+    }
+
+    #[test]
+    fn marked_items_are_told_before_unmarked_ones(rt: HostRuntime) -> Result<(), Fail> {
+        let mut report = Report::new(rt.alloc());
+        // The bits of one item more, and of none.
+        let marked = [true, true, false, true];
+        let used = [true, false, true];
+        note_marked(&mut report, &SMALL, Kind::Fb, &marked, &used)?;
+        note_unmarked(&mut report, &SMALL, Kind::Fb, &marked, &used)?;
+        note_unmarked(&mut report, &SMALL, Kind::Pb, &[], &[false, true])?;
+        let lines = b"fb 1 marked\nfb 2 unmarked\npb 1 unmarked\n";
+        assert_eq!(rt; report.text()?.as_slice(), lines.as_slice());
+        Ok(())
+    }
+}

@@ -1,0 +1,102 @@
+//! The rooms of directories.
+ghost use Rattle.std.specs.Prelude.{◌≡◌, ◌≤◌, ◌++◌, length, take, IfOk, OnOk};
+ghost use Rattle.ds_image.specs.Objects.{subs_by, subs_of, rooms_in, rooms_of};
+ghost use Rattle.ds_image.specs.Parts.{part_at};
+ghost use Rattle.ds_check.specs.Objects.{rooms_at};
+
+use ds_base::{NoMemory, NodeKind, ObjNo};
+use ds_dir::Entry;
+use ds_fd::Body;
+use ds_image::PartsInMemory;
+use std::alloc::Global;
+
+/// The rooms of an object, where it is a directory; at most 384.
+pub(crate) fn rooms_at(
+    alloc: Global,
+    parts: &PartsInMemory,
+    object: ObjNo,
+) -> Result<Vec<Option<Entry>>, NoMemory>
+    ensures exact { IfOk result (λ rooms. rooms.items ≡ rooms_at parts.now object) }
+    ensures few { IfOk result (λ rooms. length rooms.items ≤ 384) }
+{
+    rooms_of(alloc, parts, subs_at(parts, object))
+}
+
+/// The sub-blocks that an object lists.
+pub(crate) fn subs_at(parts: &PartsInMemory, object: ObjNo) -> &[u32]
+    ensures exact { result.now ≡ subs_of (part_at parts.now.bodies object) }
+    ensures few { length result.now ≤ 96 }
+{
+    match parts.bodies().get(object as usize) {
+        Some(Some(body)) => subs_in(body),
+        _ => &[],
+    }
+}
+
+fn subs_in(body: &Body) -> &[u32]
+    ensures exact { result.now ≡ subs_by body.now body.now.kind }
+    ensures few { length result.now ≤ 96 }
+{
+    match body.kind {
+        Some(NodeKind::Dir) => first(&body.addresses, body.count as usize),
+        _ => &[],
+    }
+}
+
+/// The first numbers of a list; all, where there are fewer.
+#[tactic(auto, using(std::proofs::lemmas::List::take_min))]
+fn first(numbers: &[u32], count: usize) -> &[u32]
+    ensures exact { result.now ≡ take count numbers.now }
+    ensures within { length result.now ≤ length numbers.now }
+{
+    &numbers[..count.min(numbers.len())]
+}
+
+/// The rooms of sub-blocks, one sub-block after another.
+fn rooms_of(
+    alloc: Global,
+    parts: &PartsInMemory,
+    subs: &[u32],
+) -> Result<Vec<Option<Entry>>, NoMemory>
+    requires { length subs.now ≤ 96 }
+    ensures exact { IfOk result (λ rooms. rooms.items ≡ rooms_of parts.now subs.now) }
+    ensures few { IfOk result (λ rooms. length rooms.items ≤ 384) }
+{
+    let mut rooms = Vec::new(alloc);
+    for number in subs {
+        push_rooms(&mut rooms, rooms_in(parts, *number))?;
+    }
+    Ok(rooms)
+}
+
+fn rooms_in(parts: &PartsInMemory, number: u32) -> &[Option<Entry>]
+    ensures exact { result.now ≡ rooms_in (part_at parts.now.subs number) }
+    ensures few { length result.now ≤ 4 }
+{
+    match parts.subs().get(number as usize) {
+        Some(Some(block)) => &block.rooms,
+        _ => &[],
+    }
+}
+
+/// Puts a copy of each room behind others.
+fn push_rooms(rooms: &mut Vec<Option<Entry>>, more: &[Option<Entry>]) -> Result<(), NoMemory>
+    ensures { OnOk result (rooms.new.items ≡ rooms.old.items ++ more.now) }
+{
+    for room in more {
+        rooms.push(copy_of(room)?).map_err(|_| NoMemory)?;
+    }
+    Ok(())
+}
+
+fn copy_of(room: &Option<Entry>) -> Result<Option<Entry>, NoMemory>
+    ensures { IfOk result (λ copy. copy ≡ room.now) }
+{
+    match room {
+        None => Ok(None),
+        Some(entry) => {
+            let copy = entry.clone().map_err(|_| NoMemory)?;
+            Ok(Some(copy))
+        }
+    }
+}
