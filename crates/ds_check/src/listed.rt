@@ -1,5 +1,5 @@
 //! The items that the objects of an image list.
-ghost use Rattle.std.specs.Prelude.{◌≡◌, take, IfOk};
+ghost use Rattle.std.specs.Prelude.{◌≡◌, ◌≤◌, length, take, IfOk};
 ghost use Rattle.std.specs.List.{flat_map};
 ghost use Rattle.ds_tree.specs.Counts.{pointer_blocks};
 ghost use Rattle.ds_image.specs.Objects.{subs_of, ptrs_of, blocks_of, addresses_in};
@@ -47,14 +47,16 @@ fn copied(alloc: Global, items: &[u32]) -> Result<Vec<u32>, NoMemory>
 /// The first numbers of a list; all, where there are fewer.
 #[tactic(auto, using(std::proofs::lemmas::List::take_min))]
 pub(crate) fn first(numbers: &[u32], count: usize) -> &[u32]
-    ensures { result.now ≡ take count numbers.now }
+    ensures exact { result.now ≡ take count numbers.now }
+    ensures within { length result.now ≤ length numbers.now }
 {
     &numbers[..count.min(numbers.len())]
 }
 
 /// The sub-blocks that a directory lists; none of anything else.
 pub(crate) fn subs_of(body: &Option<Body>) -> &[u32]
-    ensures { result.now ≡ subs_of body.now }
+    ensures exact { result.now ≡ subs_of body.now }
+    ensures few { length result.now ≤ 96 }
 {
     let Some(body) = body else {
         return &[];

@@ -1,12 +1,12 @@
 //! The rooms of directories.
-ghost use Rattle.std.specs.Prelude.{◌≡◌, ◌≤◌, ◌++◌, length, take, IfOk, OnOk};
-ghost use Rattle.ds_image.specs.Objects.{subs_by, subs_of, rooms_in, rooms_of};
+ghost use Rattle.std.specs.Prelude.{◌≡◌, ◌≤◌, ◌++◌, length, IfOk, OnOk};
+ghost use Rattle.ds_image.specs.Objects.{subs_of, rooms_in, rooms_of};
 ghost use Rattle.ds_image.specs.Parts.{part_at};
 ghost use Rattle.ds_check.specs.Objects.{rooms_at};
 
-use ds_base::{NoMemory, NodeKind, ObjNo};
+use crate::listed::{body_at, subs_of};
+use ds_base::{NoMemory, ObjNo};
 use ds_dir::Entry;
-use ds_fd::Body;
 use ds_image::PartsInMemory;
 use std::alloc::Global;
 
@@ -27,29 +27,7 @@ pub(crate) fn subs_at(parts: &PartsInMemory, object: ObjNo) -> &[u32]
     ensures exact { result.now ≡ subs_of (part_at parts.now.bodies object) }
     ensures few { length result.now ≤ 96 }
 {
-    match parts.bodies().get(object as usize) {
-        Some(Some(body)) => subs_in(body),
-        _ => &[],
-    }
-}
-
-fn subs_in(body: &Body) -> &[u32]
-    ensures exact { result.now ≡ subs_by body.now body.now.kind }
-    ensures few { length result.now ≤ 96 }
-{
-    match body.kind {
-        Some(NodeKind::Dir) => first(&body.addresses, body.count as usize),
-        _ => &[],
-    }
-}
-
-/// The first numbers of a list; all, where there are fewer.
-#[tactic(auto, using(std::proofs::lemmas::List::take_min))]
-fn first(numbers: &[u32], count: usize) -> &[u32]
-    ensures exact { result.now ≡ take count numbers.now }
-    ensures within { length result.now ≤ length numbers.now }
-{
-    &numbers[..count.min(numbers.len())]
+    subs_of(body_at(parts, object))
 }
 
 /// The rooms of sub-blocks, one sub-block after another.
