@@ -1,6 +1,6 @@
--- The form of the scenarios that can be run now: one host, which registers and then creates and looks up files in the root
--- directory of one fixed volume. A text of this form is the scenario written out.
-use Rattle.std.specs.Prelude.{◌≡◌, ℕ, ◌+◌, ◌≤◌, Bool, true, false, List, [], ◌∷◌, ◌++◌, length, count_by, codes, None}
+-- The form of the scenarios that can be run now: a volume of one geometry, and at most one host, which registers and then
+-- creates and looks up files in the root directory.
+use Rattle.std.specs.Prelude.{◌≡◌, ◌≢◌, ℕ, ◌+◌, ◌≤◌, ◌<◌, ◌⊎◌, Bool, true, false, List, [], ◌∷◌, ◌++◌, length, take, slice_get, count_by, codes, Some, None}
 use Rattle.std.specs.List.{flat_map, AllByRecursion}
 use Rattle.ds_base.specs.declared.geometry.Geom.{Geom}
 use Rattle.ds_base.specs.Names.{IsName}
@@ -49,16 +49,61 @@ line words = words ++ 10 ∷ []
 abbrev pub first_host : List Directive → HostPlan
 first_host calls = record { name = codes "a"; list = register ∷ calls }
 
--- at most four creates, and at most 4,096 directives
-pub record IsFirstForm (s : Scenario) : Type 0 where
+-- the list of a host that registers, and then creates and looks up names in the root: at most four creates, and at most
+-- 4,096 directives
+pub record IsFirstList (list : List Directive) : Type 0 where
   pub calls : List Directive
-  pub volume : s.volume ≡ first_volume
-  pub geom : s.geom ≡ first_geom
-  pub hosts : s.hosts ≡ first_host calls ∷ []
-  pub steps : s.steps ≡ []
+  pub all : list ≡ register ∷ calls
   pub built : AllByRecursion IsFirstDirective calls
   pub creates : count_by is_create calls ≤ 4
-  pub few : length calls + 1 ≤ 4096
+  pub few : length list ≤ 4096
+
+-- a scenario that can be run now; with at most one host its `step` lines change nothing
+pub record IsFirstForm (s : Scenario) : Type 0 where
+  pub geom : s.geom ≡ first_geom
+  pub one : length s.hosts ≤ 1
+  pub lists : (host : ℕ) (plan : HostPlan) → slice_get s.hosts host ≡ Some plan → IsFirstList plan.list
+  pub steps : AllByRecursion (λ step. step.0 < length s.hosts) s.steps
+
+-- some list of the form begins with these directives
+abbrev pub BeginsFirst : List Directive → Type 0
+BeginsFirst front = (rest : List Directive) × IsFirstList (front ++ rest)
+
+-- a list of the form begins with the directives before this one, and none begins with those up to it
+pub record IsFirstBreak (list : List Directive) (directive : ℕ) : Type 0 where
+  pub before : (n : ℕ) → n < directive → BeginsFirst (take n list)
+  pub breaks : BeginsFirst (take directive list) → ⊥
+
+-- the first directive of a list that breaks the form, counted from 1; an empty list breaks it at 1
+abbrev pub BreaksAt : List Directive → ℕ → Type 0
+BreaksAt [] directive = directive ≡ 1
+BreaksAt (d ∷ list) directive = IsFirstBreak (d ∷ list) directive
+
+-- another geometry is told at 0 and 0
+pub record HasOtherGeometry (s : Scenario) (host directive : ℕ) : Type 0 where
+  pub other : s.geom ≢ first_geom
+  pub host_is : host ≡ 0
+  pub directive_is : directive ≡ 0
+
+-- a second host is told at 1 and 0
+pub record HasSecondHost (s : Scenario) (host directive : ℕ) : Type 0 where
+  pub geom : s.geom ≡ first_geom
+  pub second : 2 ≤ length s.hosts
+  pub host_is : host ≡ 1
+  pub directive_is : directive ≡ 0
+
+-- the one host's list breaks the form at this directive
+pub record HasOtherList (s : Scenario) (host directive : ℕ) : Type 0 where
+  pub geom : s.geom ≡ first_geom
+  pub one : length s.hosts ≤ 1
+  pub plan : HostPlan
+  pub there : slice_get s.hosts host ≡ Some plan
+  pub breaks : BreaksAt plan.list directive
+
+-- a scenario that can't be run now, and where that is told: at its geometry, else at its second host, else at the first
+-- directive of its one host that breaks the form
+abbrev pub NotBuiltAt : Scenario → ℕ → ℕ → Type 0
+NotBuiltAt s host directive = HasOtherGeometry s host directive ⊎ (HasSecondHost s host directive ⊎ HasOtherList s host directive)
 
 -- the text of a host's directives, a line each
 abbrev pub directive_lines : List Directive → List ℕ
@@ -67,7 +112,11 @@ directive_lines list = flat_map (λ d. line (directive_words d)) list
 abbrev pub first_text : List Directive → List ℕ
 first_text calls = line volume_line ++ line (codes "host a") ++ directive_lines (register ∷ calls)
 
--- the bytes are a scenario of this form, written out
+-- the bytes are a scenario of this form with one fixed volume and host, written out
 pub record Spells (bytes : List ℕ) (s : Scenario) : Type 0 where
   pub form : IsFirstForm s
-  pub text : bytes ≡ first_text form.calls
+  pub calls : List Directive
+  pub volume : s.volume ≡ first_volume
+  pub hosts : s.hosts ≡ first_host calls ∷ []
+  pub steps : s.steps ≡ []
+  pub text : bytes ≡ first_text calls

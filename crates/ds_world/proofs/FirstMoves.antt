@@ -43,13 +43,13 @@ use Rattle.ds_world.specs.FirstRules.{first_rules, tree_of, IsTreeOf}
 use Rattle.ds_world.specs.FirstWorlds.{FirstWorldValue, turns_at, root_directive, name_of, AsksFor, IsReading, IsSwapping, stepped, sent_event, local_event, reply_now, place_of, FirstHolds}
 use Rattle.ds_world.proofs.Pushes.{get-within}
 use Rattle.ds_world.proofs.FirstDoes.{named, does_lookup, does_exist}
-use Rattle.ds_world.proofs.FirstScripts.{list_is}
+use Rattle.ds_world.proofs.FirstScripts.{host_list, directive_of_list, head_of_list, list_is_short}
 use Rattle.ds_world.proofs.FirstSteps.{creates_left}
 use Rattle.ds_world.proofs.FirstTurns.{entries_held, under_way_at, filling_at, swap_stored, turn-registered, turn-begun, turn-answered, turn-filling, turn-committed}
 
 -- the list of the host is short
 pub short_list : (w : FirstWorldValue) → FirstHolds w → length (list_of w.scenario 0) ≤ 4096
-short_list w h = omega (arith, ap (λ (list : List Directive). length list) (list_is w.scenario h.form), h.form.few)
+short_list w h = list_is_short (list_of w.scenario 0) (host_list w.scenario h.form 0)
 
 -- a call under way has a directive
 pub was_due : (w : FirstWorldValue) (h : FirstHolds w) (call : RootCall) → w.host.stage ≡ Reading call → w.position < length (list_of w.scenario 0)
@@ -254,18 +254,9 @@ may_take_swap w name key verify fresh response filling at =
       by_response Fault is = absurd is
 
 -- a directive of the list is the registration, or one of those that come after it
-listed_directive : (calls : List Directive) (n : ℕ) (d : Directive) → AllByRecursion IsFirstDirective calls → slice_get calls n ≡ Some d → IsFirstDirective d
-listed_directive [] n d all at = absurd (cc at)
-listed_directive (c ∷ calls) zero d all at = let same : c ≡ d = cc at in subst IsFirstDirective same all.0
-listed_directive (c ∷ calls) (suc n) d all at = listed_directive calls n d all.1 at
-
-any_directive : (calls : List Directive) (n : ℕ) (d : Directive) → AllByRecursion IsFirstDirective calls → slice_get (register ∷ calls) n ≡ Some d → (d ≡ register) ⊎ IsFirstDirective d
-any_directive calls zero d all at = inl (cc at)
-any_directive calls (suc n) d all at = inr (listed_directive calls n d all at)
-
 pub directive_listed : (w : FirstWorldValue) (h : FirstHolds w) (n : ℕ) (d : Directive) → slice_get (list_of w.scenario 0) n ≡ Some d → (d ≡ register) ⊎ IsFirstDirective d
 directive_listed w h n d at =
-    any_directive h.form.calls n d h.form.built (sym (ap (λ (list : List Directive). slice_get list n) (list_is w.scenario h.form)) ∙ at)
+    directive_of_list (list_of w.scenario 0) (host_list w.scenario h.form 0) n d at
 
 not_register : (c : RootCall) → register ≡ root_directive c → ⊥
 not_register (Create name) same = cc
@@ -276,8 +267,7 @@ above_none n = grind (arith, nat_tests)
 
 registered_by : (w : FirstWorldValue) (h : FirstHolds w) (c : RootCall) (n : ℕ) → w.position ≡ n → slice_get (list_of w.scenario 0) n ≡ Some (root_directive c) → w.host.registered ≡ true
 registered_by w h c zero place at =
-    let head : Some register ≡ Some (root_directive c) = sym (ap (λ (list : List Directive). slice_get list 0) (list_is w.scenario h.form)) ∙ at in
-    absurd (not_register c cc)
+    absurd (not_register c (sym (head_of_list (list_of w.scenario 0) (host_list w.scenario h.form 0) (root_directive c) at)))
 registered_by w h c (suc n) place at = h.registered ∙ ap (nat_lt 0) place ∙ above_none n
 
 -- a host whose next directive is a call on the root is registered

@@ -1,6 +1,6 @@
 -- What a scenario of the first form asks for.
-use Rattle.std.proofs.Common.{◌≡◌, ℕ, zero, suc, ◌+◌, List, [], ◌∷◌, refl, ap, ◌∙◌, add-one, Option, Some, None}
-use Rattle.std.specs.Prelude.{slice_get}
+use Rattle.std.proofs.Common.{◌≡◌, ℕ, zero, suc, ◌+◌, ◌≤◌, ◌⊎◌, inl, inr, cond, List, [], ◌∷◌, length, refl, sym, ap, subst, ◌∙◌, add-one, arith, Option, Some, None}
+use Rattle.std.specs.Prelude.{slice_get, count_by}
 use Rattle.std.specs.List.{AllByRecursion}
 use Rattle.std.proofs.lemmas.List.Sums.{sum_by-cons}
 use Rattle.ds_base.specs.declared.names.Key.{Key}
@@ -11,7 +11,7 @@ use Rattle.ds_tree.specs.declared.scenarios.HostPlan.{HostPlan}
 use Rattle.ds_tree.specs.declared.scenarios.Scenario.{Scenario}
 use Rattle.ds_tree.specs.declared.variables.Spoken.{Spoken}
 use Rattle.ds_tree.specs.declared.variables.Spoken.TheVariants.{Root}
-use Rattle.ds_tree.specs.FirstForm.{register, IsFirstDirective, IsFirstForm}
+use Rattle.ds_tree.specs.FirstForm.{register, is_create, IsFirstDirective, IsFirstList, IsFirstForm}
 use Rattle.ds_host.specs.declared.first_host.RootCall.{RootCall}
 use Rattle.ds_host.specs.declared.first_host.RootCall.TheVariants.{Create, Lookup}
 use Rattle.ds_host.specs.FirstConduct.{tree_call}
@@ -25,11 +25,49 @@ abbrev pub plan_list : Option HostPlan → List Directive
 plan_list None = []
 plan_list (Some plan) = plan.list
 
-pub list_is : (s : Scenario) (form : IsFirstForm s) → list_of s 0 ≡ register ∷ form.calls
-list_is s form = ap (λ (hosts : List HostPlan). plan_list (slice_get hosts 0)) form.hosts
+-- a host has no directives, or a list of the form
+pub host_list : (s : Scenario) (form : IsFirstForm s) (host : ℕ) → (list_of s host ≡ []) ⊎ IsFirstList (list_of s host)
+host_list s form host = by_plan (slice_get s.hosts host) refl where
+  by_plan : (plan : Option HostPlan) → slice_get s.hosts host ≡ plan → (plan_list plan ≡ []) ⊎ IsFirstList (plan_list plan)
+  by_plan None at = inl refl
+  by_plan (Some plan) at = inr (form.lists host plan at)
 
+none_behind : (hosts : List HostPlan) (host : ℕ) → length hosts ≤ 1 → plan_list (slice_get hosts (suc host)) ≡ []
+none_behind [] host one = refl
+none_behind (plan ∷ []) host one = refl
+none_behind (plan ∷ second ∷ hosts) host one = absurd (omega arith)
+
+-- there is no second host
 pub no_list : (s : Scenario) (form : IsFirstForm s) (host : ℕ) → list_of s (suc host) ≡ []
-no_list s form host = ap (λ (hosts : List HostPlan). plan_list (slice_get hosts (suc host))) form.hosts
+no_list s form host = none_behind s.hosts host form.one
+
+-- a directive of a list of the form is the registration, or one of those that come after it
+pub listed_directive : (calls : List Directive) (n : ℕ) (d : Directive) → AllByRecursion IsFirstDirective calls → slice_get calls n ≡ Some d → IsFirstDirective d
+listed_directive [] n d all at = absurd (cc at)
+listed_directive (c ∷ calls) zero d all at = let same : c ≡ d = cc at in subst IsFirstDirective same all.0
+listed_directive (c ∷ calls) (suc n) d all at = listed_directive calls n d all.1 at
+
+any_directive : (calls : List Directive) (n : ℕ) (d : Directive) → AllByRecursion IsFirstDirective calls → slice_get (register ∷ calls) n ≡ Some d → (d ≡ register) ⊎ IsFirstDirective d
+any_directive calls zero d all at = inl (sym (cc at))
+any_directive calls (suc n) d all at = inr (listed_directive calls n d all at)
+
+pub directive_of_list : (list : List Directive) → (list ≡ []) ⊎ IsFirstList list → (n : ℕ) (d : Directive) → slice_get list n ≡ Some d → (d ≡ register) ⊎ IsFirstDirective d
+directive_of_list list (inl none) n d at = absurd (cc (sym (ap (λ (xs : List Directive). slice_get xs n) none) ∙ at))
+directive_of_list list (inr first) n d at = any_directive first.calls n d first.built (sym (ap (λ (xs : List Directive). slice_get xs n) first.all) ∙ at)
+
+-- the first directive of a host is its registration
+pub head_of_list : (list : List Directive) → (list ≡ []) ⊎ IsFirstList list → (d : Directive) → slice_get list 0 ≡ Some d → d ≡ register
+head_of_list list (inl none) d at = absurd (cc (sym (ap (λ (xs : List Directive). slice_get xs 0) none) ∙ at))
+head_of_list list (inr first) d at = let head : Some d ≡ Some register = sym at ∙ ap (λ (xs : List Directive). slice_get xs 0) first.all in cc
+
+pub list_is_short : (list : List Directive) → (list ≡ []) ⊎ IsFirstList list → length list ≤ 4096
+list_is_short list (inl none) = omega (arith, ap (λ (xs : List Directive). length xs) none)
+list_is_short list (inr first) = first.few
+
+pub few_creates : (list : List Directive) → (list ≡ []) ⊎ IsFirstList list → count_by is_create list ≤ 4
+few_creates list (inl none) = omega (arith, ap (count_by is_create) none)
+few_creates list (inr first) =
+    omega (arith, ap (count_by is_create) first.all, sum_by-cons (λ (d : Directive). cond {A = ℕ} (is_create d) 1 0) register first.calls, first.creates)
 
 pub directive_at-next : (s : Scenario) (host n : ℕ) → directive_at s host (n + 1) ≡ slice_get (list_of s host) n
 directive_at-next s host n = ap (λ (k : ℕ). directive_at s host k) (add-one n)
@@ -48,29 +86,24 @@ calls_of-next s replies n call due =
 pub calls_of-register : (s : Scenario) (replies : List Reply) (n : ℕ) → slice_get (list_of s 0) n ≡ Some register → calls_of s replies 0 (n + 1) ≡ None
 calls_of-register s replies n due = ap (call_of (key_of s replies 0 (n + 1))) (directive_at-next s 0 n ∙ due)
 
-no_ticks : (d : Directive) → IsFirstDirective d → ticks_of (Some d) ≡ 0
-no_ticks (directives.Call call bind) is = refl
-no_ticks (directives.Tick ticks) is = absurd is
-no_ticks (directives.Wait host directive) is = refl
-no_ticks (directives.Hold point host directive) is = refl
-no_ticks (directives.Crash point) is = refl
-no_ticks (directives.Fail point landed) is = refl
-no_ticks directives.Die is = refl
-no_ticks directives.Return is = refl
+no_ticks : (d : Directive) → (d ≡ register) ⊎ IsFirstDirective d → ticks_of (Some d) ≡ 0
+no_ticks d (inl is) = ap (λ (x : Directive). ticks_of (Some x)) is
+no_ticks (directives.Call call bind) (inr is) = refl
+no_ticks (directives.Tick ticks) (inr is) = absurd is
+no_ticks (directives.Wait host directive) (inr is) = refl
+no_ticks (directives.Hold point host directive) (inr is) = refl
+no_ticks (directives.Crash point) (inr is) = refl
+no_ticks (directives.Fail point landed) (inr is) = refl
+no_ticks directives.Die (inr is) = refl
+no_ticks directives.Return (inr is) = refl
 
-no_ticks_among : (list : List Directive) (n : ℕ) → AllByRecursion IsFirstDirective list → ticks_of (slice_get list n) ≡ 0
-no_ticks_among [] n all = refl
-no_ticks_among (d ∷ list) zero all = no_ticks d all.0
-no_ticks_among (d ∷ list) (suc n) all = no_ticks_among list n all.1
-
-no_ticks_listed : (list : List Directive) (n : ℕ) → AllByRecursion IsFirstDirective list → ticks_of (slice_get (register ∷ list) n) ≡ 0
-no_ticks_listed list zero all = refl
-no_ticks_listed list (suc n) all = no_ticks_among list n all
+no_ticks_in : (list : List Directive) → (list ≡ []) ⊎ IsFirstList list → (n : ℕ) (d : Option Directive) → slice_get list n ≡ d → ticks_of d ≡ 0
+no_ticks_in list first n None at = refl
+no_ticks_in list first n (Some d) at = no_ticks d (directive_of_list list first n d at)
 
 no_ticks_at : (s : Scenario) (form : IsFirstForm s) (host n : ℕ) → ticks_of (directive_at s host n) ≡ 0
 no_ticks_at s form host zero = refl
-no_ticks_at s form zero (suc n) = ap (λ (list : List Directive). ticks_of (slice_get list n)) (list_is s form) ∙ no_ticks_listed form.calls n form.built
-no_ticks_at s form (suc host) (suc n) = ap (λ (list : List Directive). ticks_of (slice_get list n)) (no_list s form host)
+no_ticks_at s form host (suc n) = no_ticks_in (list_of s host) (host_list s form host) n (slice_get (list_of s host) n) refl
 
 zeros : ◌≡◌ {A = ℕ} (0 + 0) 0
 zeros = refl

@@ -1,6 +1,7 @@
 -- The first world before its first turn, and what its log promises.
-use Rattle.std.proofs.Common.{◌≡◌, ℕ, zero, suc, ◌≤◌, ◌∙◌, Bool, get_or, List, [], ◌∷◌, length, take, drop, refl, ap, sym, subst, arith, cond, false, Some, None}
-use Rattle.std.specs.Prelude.{slice_get, count_by}
+use Rattle.std.proofs.Common.{◌≡◌, ℕ, zero, suc, ◌≤◌, ◌<◌, ◌⊎◌, inl, inr, ◌∙◌, Bool, get_or, List, [], ◌∷◌, length, length-drop, take, drop, refl, ap, sym, subst, arith, cond, false, Option, Some, None}
+use Rattle.std.specs.Prelude.{slice_get, min, count_by}
+use Rattle.std.proofs.lemmas.List.Elements.{All-drop, All-take}
 use Rattle.std.specs.List.{AllByRecursion}
 use Rattle.std.proofs.lemmas.List.Sums.{sum_by-cons}
 use Rattle.ds_base.specs.declared.names.Key.{Key}
@@ -15,11 +16,11 @@ use Rattle.ds_tree.specs.declared.scenarios.HostPlan.{HostPlan}
 use Rattle.ds_tree.specs.declared.scenarios.Scenario.{Scenario}
 use Rattle.ds_tree.specs.declared.variables.Spoken.{Spoken}
 use Rattle.ds_tree.specs.declared.variables.Spoken.TheVariants.{Root}
-use Rattle.ds_tree.specs.FirstForm.{register, is_create, first_geom, IsFirstDirective, IsFirstForm}
+use Rattle.ds_tree.specs.FirstForm.{register, is_create, first_geom, IsFirstDirective, IsFirstList, IsFirstForm}
 use Rattle.ds_tree.proofs.FreshTree.{fresh-is_tree}
 use Rattle.ds_dir.proofs.Laws.{empty_sub, sub_bytes-empty, IsSubBlock-empty}
 use Rattle.ds_host.specs.declared.first_host.Stage.TheVariants.{Rest}
-use Rattle.std.proofs.Math.Seq.{take-length, drop-length}
+use Rattle.std.proofs.Math.Seq.{drop-length}
 use Rattle.std.proofs.lemmas.Option.{slice_get-get_or}
 use Rattle.std.proofs.lemmas.Bool.Decides.{nat_tests}
 use Rattle.ds_world.specs.declared.logs.Event.{Event}
@@ -29,40 +30,31 @@ use Rattle.ds_world.specs.Headline.{StandsAfter, Headline}
 use Rattle.ds_world.specs.Scripts.{list_of, key_of, call_of, calls_of}
 use Rattle.ds_world.specs.Store.{change_count}
 use Rattle.ds_world.specs.Commits.{commits}
-use Rattle.ds_world.specs.Follows.{is_reply_before, finished, IsAtEnd, AreOf, NoneOf, InDrain, InReplayOrder}
+use Rattle.ds_world.specs.Follows.{is_reply_before, finished, IsNext, IsAtEnd, AreOf, NoneOf, InReplayOrder}
+use Rattle.ds_world.specs.Moments.{EachEvent}
 use Rattle.ds_world.specs.FirstRules.{zero_sector, first_rules, tree_of}
 use Rattle.ds_world.specs.FirstWorlds.{FirstWorldValue, FirstHolds}
-use Rattle.ds_world.proofs.FirstScripts.{list_is, no_list}
+use Rattle.ds_world.proofs.FirstScripts.{plan_list, host_list, no_list, directive_of_list, few_creates}
 
 same_call : (key other : Spoken → Key) → key Root ≡ other Root → (d : Directive) → IsFirstDirective d → call_of key (Some d) ≡ call_of other (Some d)
 same_call key other same (directives.Call (host_calls.Tree (calls.Create Root name)) None) is = ap (λ (k : Key). Some (calls.Create k name)) same
 same_call key other same (directives.Call (host_calls.Tree (calls.Lookup Root name)) None) is = ap (λ (k : Key). Some (calls.Lookup k name)) same
 same_call key other same _ is = absurd is
 
-same_among : (key other : Spoken → Key) → key Root ≡ other Root → (list : List Directive) (n : ℕ) → AllByRecursion IsFirstDirective list
-    → call_of key (slice_get list n) ≡ call_of other (slice_get list n)
-same_among key other same [] n all = refl
-same_among key other same (d ∷ list) zero all = same_call key other same d all.0
-same_among key other same (d ∷ list) (suc n) all = same_among key other same list n all.1
+same_first : (key other : Spoken → Key) → key Root ≡ other Root → (d : Directive) → (d ≡ register) ⊎ IsFirstDirective d → call_of key (Some d) ≡ call_of other (Some d)
+same_first key other same d (inl is) = ap (λ (x : Directive). call_of key (Some x)) is ∙ sym (ap (λ (x : Directive). call_of other (Some x)) is)
+same_first key other same d (inr is) = same_call key other same d is
 
-same_listed : (key other : Spoken → Key) → key Root ≡ other Root → (list : List Directive) (n : ℕ) → AllByRecursion IsFirstDirective list
-    → call_of key (slice_get (register ∷ list) n) ≡ call_of other (slice_get (register ∷ list) n)
-same_listed key other same list zero all = refl
-same_listed key other same list (suc n) all = same_among key other same list n all
+same_in : (key other : Spoken → Key) → key Root ≡ other Root → (list : List Directive) → (list ≡ []) ⊎ IsFirstList list → (n : ℕ) (d : Option Directive) → slice_get list n ≡ d
+    → call_of key d ≡ call_of other d
+same_in key other same list first n None at = refl
+same_in key other same list first n (Some d) at = same_first key other same d (directive_of_list list first n d at)
 
 -- the calls of such a scenario don't depend on replies
 calls_same : (s : Scenario) (form : IsFirstForm s) (replies : List Reply) (host n : ℕ) → calls_of s [] host n ≡ calls_of s replies host n
 calls_same s form replies host zero = refl
-calls_same s form replies zero (suc n) =
-    let key = key_of s [] 0 (suc n) in
-    let other = key_of s replies 0 (suc n) in
-    ap (λ (list : List Directive). call_of key (slice_get list n)) (list_is s form)
-    ∙ same_listed key other refl form.calls n form.built
-    ∙ sym (ap (λ (list : List Directive). call_of other (slice_get list n)) (list_is s form))
-calls_same s form replies (suc host) (suc n) =
-    let none = no_list s form host in
-    ap (λ (list : List Directive). call_of (key_of s [] (suc host) (suc n)) (slice_get list n)) none
-    ∙ sym (ap (λ (list : List Directive). call_of (key_of s replies (suc host) (suc n)) (slice_get list n)) none)
+calls_same s form replies host (suc n) =
+    same_in (key_of s [] host (suc n)) (key_of s replies host (suc n)) refl (list_of s host) (host_list s form host) n (slice_get (list_of s host) n) refl
 
 -- what holds of the first world is the headline of its log
 pub headline_of : (w : FirstWorldValue) → FirstHolds w → Headline first_rules first_geom (calls_of w.scenario w.log.replies) w.log.events w.log.replies
@@ -92,11 +84,6 @@ at_first s = record {
   stands = record { sector = zero_sector; block = empty_sub; there = refl; spelled = (IsSubBlock-empty, sym sub_bytes-empty); tree = refl };
 }
 
-creates_first : (s : Scenario) (form : IsFirstForm s) → count_by is_create (drop 0 (list_of s 0)) ≤ 4
-creates_first s form =
-    let all : count_by is_create (drop 0 (list_of s 0)) ≡ count_by is_create (register ∷ form.calls) = ap (λ (list : List Directive). count_by is_create (drop 0 list)) (list_is s form) in
-    omega (arith, all, sum_by-cons (λ (d : Directive). cond {A = ℕ} (is_create d) 1 0) register form.calls, form.creates)
-
 first_geom-is : IsGeom first_geom
 first_geom-is Slots = (omega arith, omega arith)
 first_geom-is Block = (omega arith, omega arith)
@@ -112,6 +99,7 @@ first_geom-is (Items Fb) = (omega arith, omega arith)
 pub first_holds : (s : Scenario) → IsFirstForm s → FirstHolds (first_value s)
 first_holds s form =
     let P : List Event → Type 0 = StandsAfter first_rules (tree_of first_geom [] ∷ []) in
+    let few : count_by is_create (drop 0 (list_of s 0)) ≤ 4 = few_creates (list_of s 0) (host_list s form 0) in
     record {
       form = form;
       within = omega arith;
@@ -122,7 +110,7 @@ first_holds s form =
       holds = record { one = refl; spelled = (IsSubBlock-empty, sym sub_bytes-empty); packed = refl; four = refl };
       numbered = tt;
       rules = fresh-is_tree first_geom first_geom-is;
-      room = omega (arith, creates_first s form);
+      room = omega (arith, few);
       is_store = refl;
       trees = tree_of first_geom [] ∷ [];
       changes = [];
@@ -177,21 +165,58 @@ all_of_first : (events : List Event) → ((i : ℕ) (e : Event) → slice_get ev
 all_of_first events all i d less =
     let item = slice_get-get_or events i d less in all i (get_or events i d) item
 
--- one host makes all turns
+all_of_rest : (events : List Event) (n : ℕ) → AreOf 0 events → AreOf 0 (drop n events)
+all_of_rest events n all = All-drop (λ (e : Event). e.host ≡ 0) n events all
+
+all_of_front : (events : List Event) (n : ℕ) → AreOf 0 events → AreOf 0 (take n events)
+all_of_front events n all = All-take (λ (e : Event). e.host ≡ 0) n events all
+
+-- no event is left of a log that is over
+none_of_rest : (events : List Event) (n : ℕ) → length events ≤ n → NoneOf 0 (drop n events)
+none_of_rest events n over i d less = absurd (omega (arith, less, length-drop n events))
+
+-- one host makes all turns, whatever the `step` lines are
+ordered : (steps : List (ℕ × ℕ)) (events : List Event) → AllByRecursion (λ (step : ℕ × ℕ). step.0 < 1) steps → AreOf 0 events → InReplayOrder 1 steps events
+ordered [] events first all = (
+  length events,
+  all_of_front events (length events) all,
+  none_of_rest events (length events) (omega arith),
+  drop-length events,
+)
+ordered (step ∷ steps) events first all =
+    let host : 0 ≡ step.0 = omega (arith, first.0) in
+    let n = min step.1 (length events) in (
+      n,
+      omega arith,
+      subst (λ (h : ℕ). AreOf h (take n events)) host (all_of_front events n all),
+      λ less. subst (λ (h : ℕ). NoneOf h (drop n events)) host (none_of_rest events n (omega arith)),
+      ordered steps (drop n events) first.1 (all_of_rest events n all),
+    )
+
+-- without a host there are no `step` lines, and no events
+unordered : (steps : List (ℕ × ℕ)) → AllByRecursion (λ (step : ℕ × ℕ). step.0 < 0) steps → InReplayOrder 0 steps []
+unordered [] none = refl
+unordered (step ∷ steps) none = absurd (omega (arith, none.0))
+
+-- without directives nothing happens
+no_events : (w : FirstWorldValue) (h : FirstHolds w) → ((host : ℕ) → list_of w.scenario host ≡ []) → w.log.events ≡ []
+no_events w h empty = by_events w.log.events h.follows.next where
+  by_events : (events : List Event) → EachEvent (IsNext first_rules.start w.scenario w.log.replies) events → events ≡ []
+  by_events [] next = refl
+  by_events (e ∷ events) next =
+      let is = next 0 e refl in
+      absurd (cc (sym (ap (λ (list : List Directive). slice_get list (finished w.log.replies e.host 0)) (empty e.host)) ∙ is.due))
+
+order_by : (w : FirstWorldValue) (h : FirstHolds w) (hosts : List HostPlan) → w.scenario.hosts ≡ hosts → length hosts ≤ 1 → AllByRecursion (λ (step : ℕ × ℕ). step.0 < length hosts) w.scenario.steps
+    → InReplayOrder (length hosts) w.scenario.steps w.log.events
+order_by w h [] is one steps =
+    let empty : (host : ℕ) → list_of w.scenario host ≡ [] = λ host. ap (λ (hosts : List HostPlan). plan_list (slice_get hosts host)) is in
+    subst (InReplayOrder 0 w.scenario.steps) (sym (no_events w h empty)) (unordered w.scenario.steps steps)
+order_by w h (plan ∷ []) is one steps = ordered w.scenario.steps w.log.events steps (all_of_first w.log.events (λ i e at. (h.reached.events_reach i e at).0))
+order_by w h (plan ∷ second ∷ hosts) is one steps = absurd (omega arith)
+
 pub is_in_order : (w : FirstWorldValue) (h : FirstHolds w) → InReplayOrder (length w.scenario.hosts) w.scenario.steps w.log.events
-is_in_order w h =
-    let events = w.log.events in
-    let whole : take (length events) events ≡ events = take-length events in
-    let rest : drop (length events) events ≡ [] = drop-length events in
-    let hosts : length w.scenario.hosts ≡ 1 = ap (λ (hosts : List HostPlan). length hosts) h.form.hosts in
-    let drained : InDrain 0 1 events = (
-      length events,
-      subst (AreOf 0) (sym whole) (all_of_first events (λ i e at. (h.reached.events_reach i e at).0)),
-      subst (NoneOf 0) (sym rest) (λ i d less. absurd (omega arith)),
-      rest,
-    ) in
-    let ordered : InReplayOrder 1 [] events = drained in
-    subst (λ (n : ℕ). InReplayOrder n w.scenario.steps events) (sym hosts) (subst (λ (steps : List (ℕ × ℕ)). InReplayOrder 1 steps events) (sym h.form.steps) ordered)
+is_in_order w h = order_by w h w.scenario.hosts refl h.form.one h.form.steps
 
 -- what is told of Swaps counts the commits
 pub changes_counted : (w : FirstWorldValue) (h : FirstHolds w) → change_count w.log.events ≡ commits first_rules w.log.events

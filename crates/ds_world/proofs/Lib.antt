@@ -6,6 +6,7 @@ pub mod Following
 pub mod FirstTree
 pub mod FirstDoes
 pub mod FirstScripts
+pub mod FirstForms
 pub mod FirstSteps
 pub mod FirstTurns
 pub mod FirstStart

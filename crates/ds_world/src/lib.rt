@@ -1,11 +1,13 @@
 //! A device, its hosts, and the log of what happened.
 #![tactic(auto)]
 
+mod first_forms;
 mod first_tree;
 mod first_world;
 mod logs;
 mod moves;
 
+pub use first_forms::not_built;
 pub use first_world::FirstWorld;
 pub use logs::{Event, Log, Reply, Step};
 pub use moves::Moved;

@@ -1,4 +1,4 @@
-use Rattle.std.proofs.Common.{inr, ◌≡◌, ◌+◌, ◌++◌, ◌∷◌, [], length, refl, sym, ap, subst, ◌∙◌, Some}
+use Rattle.std.proofs.Common.{inr, ◌≡◌, ◌+◌, ◌++◌, ◌∷◌, [], length, refl, sym, ap, subst, ◌∙◌, arith, Some}
 use Rattle.ds_host.specs.declared.first_host.Stage.TheVariants.{Rest}
 use Rattle.ds_world.specs.declared.logs.Event.{Event}
 use Rattle.ds_world.specs.declared.logs.Reply.{Reply}
@@ -9,8 +9,43 @@ use Rattle.ds_world.proofs.FirstMoves.{fewer_answered}
 use Rattle.std.specs.Prelude.{slice_get}
 use Rattle.ds_host.specs.FirstStates.{FirstState}
 use Rattle.ds_world.proofs.Pushes.{get-within}
-use Rattle.ds_world.proofs.FirstMoves.{begun_answered, moved-registered}
+use Rattle.ds_world.proofs.FirstMoves.{short_list, may_begin, begun, begun_answered, moved-begun, moved-registered}
 use Rattle.ds_world.proofs.first_world.FirstWorld.begin.Goals as goal
+
+pub begin-requires-clause-built : goal.begin-requires-clause-built
+begin-requires-clause-built c =
+    let w : FirstWorldValue = record { scenario = c.self.inside.scenario; position = c.self.inside.position; host = c.self.inside.host; device = c.self.inside.device; commits = c.self.inside.commits; log = c.self.inside.log } in
+    let h : FirstHolds w = c.self.invariant in
+    let d = c.in-Some.ensures.0 in
+    let at : slice_get (list_of w.scenario 0) w.position ≡ Some d = ap (λ (v : FirstWorldValue). slice_get (list_of v.scenario 0) v.position) c.self.view_is ∙ c.in-Some.ensures.1 in
+    may_begin w h c.in-Some.call d at c.in-Some.ensures.2
+
+pub event_of-event-requires : goal.event_of-event-requires
+event_of-event-requires c =
+    let w : FirstWorldValue = record { scenario = c.self.inside.scenario; position = c.self.inside.position; host = c.self.inside.host; device = c.self.inside.device; commits = c.self.inside.commits; log = c.self.inside.log } in
+    let h : FirstHolds w = c.self.invariant in
+    let d = c.in-Some.ensures.0 in
+    let at : slice_get (list_of w.scenario 0) w.position ≡ Some d = ap (λ (v : FirstWorldValue). slice_get (list_of v.scenario 0) v.position) c.self.view_is ∙ c.in-Some.ensures.1 in
+    omega (arith, get-within (list_of w.scenario 0) w.position d at, short_list w h)
+
+pub reply_of-reply-requires : goal.reply_of-reply-requires
+reply_of-reply-requires c =
+    let w : FirstWorldValue = record { scenario = c.self.inside.scenario; position = c.self.inside.position; host = c.self.inside.host; device = c.self.inside.device; commits = c.self.inside.commits; log = c.self.inside.log } in
+    let h : FirstHolds w = c.self.invariant in
+    let d = c.in-Some.ensures.0 in
+    let at : slice_get (list_of w.scenario 0) w.position ≡ Some d = ap (λ (v : FirstWorldValue). slice_get (list_of v.scenario 0) v.position) c.self.view_is ∙ c.in-Some.ensures.1 in
+    omega (arith, get-within (list_of w.scenario 0) w.position d at, short_list w h)
+
+pub invariant_of-self-in-None : goal.invariant_of-self-in-None
+invariant_of-self-in-None c =
+    let w : FirstWorldValue = record { scenario = c.self.inside.scenario; position = c.self.inside.position; host = c.self.inside.host; device = c.self.inside.device; commits = c.self.inside.commits; log = c.self.inside.log } in
+    let h : FirstHolds w = c.self.invariant in
+    let d = c.in-Some.ensures.0 in
+    let at : slice_get (list_of w.scenario 0) w.position ≡ Some d = ap (λ (v : FirstWorldValue). slice_get (list_of v.scenario 0) v.position) c.self.view_is ∙ c.in-Some.ensures.1 in
+    let rests : w.host.stage ≡ Rest = ap (λ (v : FirstWorldValue). v.host.stage) c.self.view_is ∙ c.requires.rests in
+    let new = c.begin.new.self in
+    let is = begun w.host new c.in-Some.call d c.in-Some.ensures.2 c.in-None.ensures in
+    FirstHolds-as (stepped w w.position new w.device w.commits w.log.events w.log.replies) _ refl refl refl refl refl refl refl (moved-begun w h new d rests at is)
 
 pub invariant_of-self : goal.invariant_of-self
 invariant_of-self c =

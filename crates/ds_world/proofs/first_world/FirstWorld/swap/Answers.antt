@@ -1,4 +1,4 @@
-use Rattle.std.proofs.Common.{inr, ◌≡◌, ◌+◌, ◌++◌, ◌∷◌, [], true, false, length, refl, sym, ap, subst, ◌∙◌, Option}
+use Rattle.std.proofs.Common.{inr, ◌≡◌, ◌+◌, ◌++◌, ◌∷◌, [], true, false, length, refl, sym, ap, subst, ◌∙◌, arith, Option}
 use Rattle.ds_base.specs.declared.commands.Command.TheVariants.{Swap}
 use Rattle.ds_host.specs.declared.answers.HostAnswer.{HostAnswer}
 use Rattle.ds_host.specs.declared.first_host.Stage.TheVariants.{Filling}
@@ -7,10 +7,24 @@ use Rattle.ds_world.specs.declared.logs.Reply.{Reply}
 use Rattle.ds_world.specs.Scripts.{list_of}
 use Rattle.ds_world.specs.FirstWorlds.{FirstWorldValue, FirstHolds, AddsEvent, sent_event, reply_now, place_of, turns_at, stepped}
 use Rattle.ds_world.proofs.FirstSteps.{FirstHolds-as}
-use Rattle.ds_world.proofs.FirstMoves.{was_due_filling, moved-swap, IsSwapped, IsCommitted, swap_due, fewer_committed}
+use Rattle.ds_world.proofs.FirstMoves.{short_list, was_due_filling, moved-swap, IsSwapped, IsCommitted, swap_due, fewer_committed}
 use Rattle.ds_base.specs.declared.commands.Command.{Command}
 use Rattle.ds_base.specs.Device.{Answers, stored}
 use Rattle.ds_world.proofs.first_world.FirstWorld.swap.Goals as goal
+
+pub event_of-event-requires : goal.event_of-event-requires
+event_of-event-requires c =
+    let w : FirstWorldValue = record { scenario = c.self.inside.scenario; position = c.self.inside.position; host = c.self.inside.host; device = c.self.inside.device; commits = c.self.inside.commits; log = c.self.inside.log } in
+    let h : FirstHolds w = c.self.invariant in
+    let stage : w.host.stage ≡ Filling c.requires.swapping.0 c.requires.swapping.1.0 c.requires.swapping.1.1.0 c.requires.swapping.1.1.1.0 = ap (λ (v : FirstWorldValue). v.host.stage) c.self.view_is ∙ c.requires.swapping.1.1.1.1 in
+    omega (arith, was_due_filling w h c.requires.swapping.0 c.requires.swapping.1.0 c.requires.swapping.1.1.0 c.requires.swapping.1.1.1.0 stage, short_list w h)
+
+pub reply_of-reply-requires : goal.reply_of-reply-requires
+reply_of-reply-requires c =
+    let w : FirstWorldValue = record { scenario = c.self.inside.scenario; position = c.self.inside.position; host = c.self.inside.host; device = c.self.inside.device; commits = c.self.inside.commits; log = c.self.inside.log } in
+    let h : FirstHolds w = c.self.invariant in
+    let stage : w.host.stage ≡ Filling c.requires.swapping.0 c.requires.swapping.1.0 c.requires.swapping.1.1.0 c.requires.swapping.1.1.1.0 = ap (λ (v : FirstWorldValue). v.host.stage) c.self.view_is ∙ c.requires.swapping.1.1.1.1 in
+    omega (arith, was_due_filling w h c.requires.swapping.0 c.requires.swapping.1.0 c.requires.swapping.1.1.0 c.requires.swapping.1.1.1.0 stage, short_list w h)
 
 pub invariant_of-self : goal.invariant_of-self
 invariant_of-self c =
