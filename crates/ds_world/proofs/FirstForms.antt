@@ -1,5 +1,5 @@
 -- Which scenarios have the form that can be run now, and where the others break it.
-use Rattle.std.proofs.Common.{◌≡◌, ℕ, zero, suc, ◌+◌, ◌≤◌, ◌<◌, ◌⊎◌, inl, inr, ◌==◌, Bool, true, false, List, [], ◌∷◌, ◌++◌, length, take, drop, take-take, length-take, get_or, cond, add-one, refl, sym, ap, subst, ◌∙◌, arith, Option, Some, None}
+use Rattle.std.proofs.Common.{◌≡◌, ℕ, zero, suc, ◌+◌, ◌≤◌, ◌<◌, ◌⊎◌, inl, inr, ◌==◌, true, false, List, [], ◌∷◌, ◌++◌, length, take, drop, take-take, length-take, get_or, cond, add-one, refl, sym, ap, subst, ◌∙◌, arith, Option, Some, None}
 use Rattle.std.specs.Prelude.{slice_get, count_by, MatchOption}
 use Rattle.std.specs.List.{AllByRecursion, sum_by}
 use Rattle.std.proofs.lemmas.Bool.Decides.{nat_tests}
@@ -15,7 +15,7 @@ use Rattle.ds_tree.specs.declared.scenarios.HostPlan.{HostPlan}
 use Rattle.ds_tree.specs.declared.scenarios.Scenario.{Scenario}
 use Rattle.ds_tree.specs.declared.variables.Spoken.{Spoken}
 use Rattle.ds_tree.specs.declared.variables.Spoken.TheVariants.{Root}
-use Rattle.ds_tree.specs.FirstForm.{register, first_geom, is_create, IsFirstDirective, IsFirstList, IsFirstForm, BeginsFirst, IsFirstBreak, BreaksAt, HasOtherGeometry, HasSecondHost, HasOtherList, NotBuiltAt}
+use Rattle.ds_tree.specs.FirstForm.{register, first_geom, is_create, IsFirstDirective, IsFirstList, IsFirstForm, BeginsFirst, IsFirstBreak, BreaksAt, HasOtherList, NotBuiltAt}
 use Rattle.ds_tree.specs.Grammar.{IsScenario, IsStep}
 use Rattle.ds_world.proofs.Pushes.{get-within}
 use Rattle.ds_world.proofs.FirstScripts.{listed_directive}

@@ -44,7 +44,7 @@ fn first_break(scenario: &Scenario) -> Option<(HostNo, u32)>
 }
 
 /// The first directive of a list that breaks the form.
-fn list_break(list: &[Directive]) -> Option<u32>
+pub(crate) fn list_break(list: &[Directive]) -> Option<u32>
     requires { length list.now ≤ 4096 }
     ensures { MatchOption result (IsFirstList list.now) (λ directive. BreaksAt list.now directive) }
 {

@@ -1,6 +1,8 @@
 //! A device, its hosts, and the log of what happened.
 #![tactic(auto)]
 
+#[cfg(test)]
+mod first_form_tests;
 mod first_forms;
 mod first_tree;
 mod first_world;
