@@ -1,2 +1,4 @@
+mod FirstItem
 mod Given
 mod NextEntries
+mod SlotReading

@@ -7,8 +7,10 @@ use crate::growing::Growing;
 use crate::listing;
 use crate::reports::{text, whole};
 use arrayvec::ArrayVec;
-use ds_base::{Command, Geom, Key, Kind, Name, NodeKind, Response, Sector, Word};
-use ds_host::HostAnswer;
+use ds_base::{Command, Gen, Geom, Key, Kind, Name, NodeKind, Response, Sector, Word};
+use ds_host::{HostAnswer, Spot};
+use ds_lock::How;
+use ds_marks::{Journal, Slot, SlotState};
 use ds_tree::{
     Call, CallOf, Directive, HostCallOf, HostPlan, Items, Scenario, Spoken, Tree, TreeReply,
 };
@@ -43,7 +45,22 @@ fn each_answer_has_its_text(rt: HostRuntime) -> Result<(), Fail> {
             },
             b"ok 3.17".as_slice(),
         ),
+        (HostAnswer::Plain, b"ok"),
+        (HostAnswer::BadName, b"bad-name"),
+        (HostAnswer::Unregistered, b"unregistered"),
+        (HostAnswer::NotOpen, b"not-open"),
+        (HostAnswer::StillOpen, b"still-open"),
+        (HostAnswer::OpenFull, b"open-full"),
+        (HostAnswer::NoSlot, b"no-slot"),
+        (HostAnswer::Fenced { offset: 4 }, b"fenced 4"),
+        (
+            HostAnswer::LeaseLost { now: 16, last: 0 },
+            b"lease-lost 16 0",
+        ),
+        (HostAnswer::DeviceFault, b"device-fault"),
+        (HostAnswer::InDoubt, b"in-doubt"),
         (HostAnswer::Damaged { sector: 4096 }, b"damaged 4096"),
+        (HostAnswer::WornOut, b"worn-out"),
         (
             HostAnswer::Tree(TreeReply::Made { key: key(12, 1) }),
             b"ok 12.1",
@@ -135,6 +152,52 @@ fn each_answer_has_its_text(rt: HostRuntime) -> Result<(), Fail> {
     Ok(())
 }
 
+/// A slot in a generation, whose host has shown itself once if it isn't free.
+fn slot(state: SlotState, generation: Gen, journal: Journal) -> Slot {
+    Slot {
+        state,
+        generation,
+        host: Uuid::nil(),
+        stamp: if state == SlotState::Free { 0 } else { 1 },
+        journal,
+    }
+}
+
+const COMMITTED: Journal = Journal::Committed { txn: 1, count: 5 };
+
+fn breaking(by: u8, by_generation: Gen) -> SlotState {
+    SlotState::Breaking { by, by_generation }
+}
+
+#[test]
+fn a_busy_answer_tells_what_is_busy_and_how(rt: HostRuntime) -> Result<(), Fail> {
+    let held = How::Held {
+        slot: 0,
+        image: slot(SlotState::Live, 3, Journal::Idle),
+    };
+    let recovering = How::Recovering {
+        slot: 2,
+        image: slot(breaking(1, 4), 5, COMMITTED),
+        breaker: slot(SlotState::Live, 6, Journal::Idle),
+    };
+    let object = Spot::Object(2072);
+    let own = Spot::Slot(3);
+    let table = [
+        (object, held, b"busy held 2072 0.3".as_slice()),
+        (own, held, b"busy held slot-3 0.3"),
+        (object, recovering, b"busy recovering 2072 2.5 1.4"),
+        (own, recovering, b"busy recovering slot-3 2.5 1.4"),
+        (object, How::Raced, b"busy raced 2072"),
+        (own, How::Raced, b"busy raced slot-3"),
+    ];
+    for (spot, how, want) in table {
+        let mut text = Growing::new(rt.alloc());
+        write_answer(&mut text, &HostAnswer::Busy { spot, how })?;
+        assert_eq!(rt; text.into_bytes().as_slice(), want);
+    }
+    Ok(())
+}
+
 fn call(call: HostCallOf<Spoken>) -> Directive {
     Directive::Call { call, bind: None }
 }
@@ -219,7 +282,7 @@ fn step(rt: &impl Abort, tree: &mut Tree, call: &Call) -> Result<(), Fail>
     Ok(())
 }
 
-fn create(rt: &impl Abort, tree: &mut Tree, dir: Key, bytes: &[u8]) -> Result<(), Fail> {
+pub(crate) fn create(rt: &impl Abort, tree: &mut Tree, dir: Key, bytes: &[u8]) -> Result<(), Fail> {
     let name = word(rt, bytes);
     step(rt, tree, &CallOf::Create { dir, name })
 }
@@ -316,16 +379,18 @@ fn a_report_has_a_part_for_each_event(rt: HostRuntime) -> Result<(), Fail> {
         swap(0, 3, true, true),
     ];
     let tree = tree(&rt, alloc)?;
+    let scenario = scenario(&rt, alloc)?;
+    assert!(rt; scenario.geom.check().is_ok());
     let mut want = Growing::new(alloc);
     want.bytes(PARTS)?;
     want.bytes(LISTING)?;
-    let report = whole(alloc, &scenario(&rt, alloc)?, &events, &replies, &tree)?;
+    let report = whole(alloc, &scenario, &events, &replies, &tree)?;
     assert_eq!(rt; report.as_slice(), want.into_bytes().as_slice());
     assert_eq!(rt; listing(alloc, &tree)?.as_slice(), LISTING);
     let mut want = Growing::new(alloc);
     want.bytes(b"changes 0\n")?;
     want.bytes(LISTING)?;
-    let empty = text(alloc, &scenario(&rt, alloc)?, &Log::new(alloc), &tree)?;
+    let empty = text(alloc, &scenario, &Log::new(alloc), &tree)?;
     assert_eq!(rt; empty.as_slice(), want.into_bytes().as_slice());
     Ok(())
 }

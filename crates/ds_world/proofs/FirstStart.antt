@@ -97,7 +97,7 @@ creates_first s form =
     let all : count_by is_create (drop 0 (list_of s 0)) ≡ count_by is_create (register ∷ form.calls) = ap (λ (list : List Directive). count_by is_create (drop 0 list)) (list_is s form) in
     omega (arith, all, sum_by-cons (λ (d : Directive). cond {A = ℕ} (is_create d) 1 0) register form.calls, form.creates)
 
-first_geom-is : IsGeom first_geom
+pub first_geom-is : IsGeom first_geom
 first_geom-is Slots = (omega arith, omega arith)
 first_geom-is Block = (omega arith, omega arith)
 first_geom-is (Clusters Fd) = (omega arith, omega arith)

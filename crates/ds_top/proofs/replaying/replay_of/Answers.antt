@@ -1,10 +1,15 @@
 use Rattle.std.proofs.Common.{◌≡◌, sym, subst, ◌∙◌}
+use Rattle.ds_base.specs.Geometry.{IsGeom}
 use Rattle.ds_tree.specs.Nodes.{FileTree}
 use Rattle.ds_world.specs.LogValues.{LogValue}
 use Rattle.ds_world.specs.Store.{store}
 use Rattle.ds_world.specs.FirstRules.{first_rules}
+use Rattle.ds_world.proofs.FirstStart.{first_geom-is}
 use Rattle.ds_top.proofs.PromiseLaws.{replayed}
 use Rattle.ds_top.proofs.replaying.replay_of.Goals as goal
+
+pub text-requires-clause-geometry : goal.text-requires-clause-geometry
+text-requires-clause-geometry c = subst IsGeom (sym c.requires.geom) first_geom-is
 
 pub returns : goal.returns
 returns c =
