@@ -2,3 +2,4 @@ mod FirstItem
 mod Given
 mod NextEntries
 mod SlotReading
+mod TurnsTold

@@ -171,7 +171,7 @@ found_is number bytes (Some s) t e =
     let same : bytes ≡ slot_bytes number s = (bytes_eq-Decides bytes (slot_bytes number s)).0 (second (is_slot s) _ tested.1) in
     subst (λ (u : Slot). IsSlot u × (bytes ≡ slot_bytes number u)) tested.0 (slot, same)
 
-slot_in-IsDecoded : (number : ℕ) (bytes : List ℕ) → number < 256 → length bytes ≡ 512 → AllBelow 256 bytes → IsDecoded (slot_in number bytes) (λ s. IsSlot s × (bytes ≡ slot_bytes number s))
+pub slot_in-IsDecoded : (number : ℕ) (bytes : List ℕ) → number < 256 → length bytes ≡ 512 → AllBelow 256 bytes → IsDecoded (slot_in number bytes) (λ s. IsSlot s × (bytes ≡ slot_bytes number s))
 unfolding slot_in
 slot_in-IsDecoded number bytes small len below t =
     let parts = are_parts bytes len below in (

@@ -3,3 +3,4 @@ pub mod Hosts
 pub mod Slots
 pub mod Listing
 pub mod Report
+pub mod Turns

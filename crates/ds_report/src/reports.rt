@@ -3,6 +3,8 @@ ghost use Rattle.std.specs.Prelude.{◌≡◌, ◌+◌, ◌<◌, ◌++◌, lengt
 ghost use Rattle.std.specs.List.{flat_map};
 ghost use Rattle.ds_base.specs.Geometry.{IsGeom};
 ghost use Rattle.ds_world.specs.Store.{change_count};
+ghost use Rattle.ds_world.specs.declared.logs.Event.{Event};
+ghost use Rattle.ds_report.specs.Turns.{TellsTurns};
 ghost use Rattle.ds_report.specs.Report.{AreInOrder, report_of, parts_of, given_in, death_line, reply_line};
 ghost use Rattle.ds_tree.specs.FirstForm.{line};
 
@@ -21,7 +23,8 @@ use std::alloc::Global;
 pub fn text(alloc: Global, scenario: &Scenario, log: &Log, tree: &Tree) -> Result<Vec<u8>, NoMemory>
     requires geometry { IsGeom scenario.now.geom }
     requires order { AreInOrder log.now.replies }
-    ensures { IfOk result (λ text. text.items ≡ report_of scenario.now log.now.events log.now.replies tree.now.tree) }
+    ensures report { IfOk result (λ text. text.items ≡ report_of scenario.now log.now.events log.now.replies tree.now.tree) }
+    ensures turns { (event : Event) → TellsTurns scenario.now event }
 {
     whole(alloc, scenario, log.events(), log.replies(), tree)
 }

@@ -1,9 +1,10 @@
 //! Reports of hosts that die, are broken and are replaced, and of what is read.
 ghost use Rattle.std.specs.Prelude.{◌≡◌};
+ghost use Rattle.ds_report.specs.Report.{AreInOrder};
 
+use crate::answers::write_answer;
 use crate::growing::Growing;
 use crate::reports::whole;
-use crate::tests::create;
 use ds_base::{Command, Gen, Geom, Key, NodeKind, Response, Sector, SlotNo, Word};
 use ds_host::{HostAnswer, Spot};
 use ds_lock::How;
@@ -20,10 +21,11 @@ use uuid::Uuid;
 const COMMITTED: Journal = Journal::Committed { txn: 1, count: 5 };
 
 fn breaking(by: SlotNo) -> SlotState {
-    SlotState::Breaking {
-        by,
-        by_generation: 1,
-    }
+    broken_by(by, 1)
+}
+
+fn broken_by(by: SlotNo, by_generation: Gen) -> SlotState {
+    SlotState::Breaking { by, by_generation }
 }
 
 /// A slot whose host has shown itself once, if it has one.
@@ -35,6 +37,52 @@ fn slot(state: SlotState, generation: Gen, journal: Journal) -> Slot {
         stamp: if state == SlotState::Free { 0 } else { 1 },
         journal,
     }
+}
+
+fn held() -> How {
+    How::Held {
+        slot: 0,
+        image: slot(SlotState::Live, 3, Journal::Idle),
+    }
+}
+
+fn recovering() -> How {
+    How::Recovering {
+        slot: 2,
+        image: slot(broken_by(1, 4), 5, COMMITTED),
+        breaker: slot(SlotState::Live, 6, Journal::Idle),
+    }
+}
+
+fn busy(spot: Spot, how: How) -> HostAnswer {
+    HostAnswer::Busy { spot, how }
+}
+
+#[test]
+fn a_busy_answer_tells_what_is_busy_and_how(rt: HostRuntime) -> Result<(), Fail> {
+    let table = [
+        (
+            busy(Spot::Object(2072), held()),
+            b"busy held 2072 0.3".as_slice(),
+        ),
+        (busy(Spot::Slot(3), held()), b"busy held slot-3 0.3"),
+        (
+            busy(Spot::Object(0), recovering()),
+            b"busy recovering 0 2.5 1.4",
+        ),
+        (
+            busy(Spot::Slot(3), recovering()),
+            b"busy recovering slot-3 2.5 1.4",
+        ),
+        (busy(Spot::Object(2072), How::Raced), b"busy raced 2072"),
+        (busy(Spot::Slot(3), How::Raced), b"busy raced slot-3"),
+    ];
+    for (answer, want) in &table {
+        let mut text = Growing::new(rt.alloc());
+        write_answer(&mut text, answer)?;
+        assert_eq!(rt; text.into_bytes().as_slice(), *want);
+    }
+    Ok(())
 }
 
 /// The sector of a slot.
@@ -118,11 +166,6 @@ fn registered(slot: SlotNo) -> HostAnswer {
     }
 }
 
-const ROOT: Key = Key {
-    object: 0,
-    birth: 1,
-};
-
 const DISK: Key = Key {
     object: 1,
     birth: 1,
@@ -204,97 +247,90 @@ fn scenario(rt: &impl Abort, alloc: Global) -> Result<Scenario, Fail> {
     })
 }
 
-const TAKEOVER: &[u8] = b"a 1 register ok 0.1\n\
-    a 3 create ok 1.1 at 1\n\
-    a dies\n\
-    b 2 register ok 1.1\n\
-    b breaks 0.1\n\
-    b dies\n\
-    c 2 register ok 2.1\n\
-    c 3 lookup busy recovering 0 0.1 1.1\n\
-    c breaks 1.1\n\
-    c frees 1.1\n\
-    c 5 scan ok\n\
-    c seizes 0.1\n\
-    c frees 0.1\n\
-    c 6 lookup ok 1.1 file at 1\n\
-    changes 1\n\
-    / 0.1 dir\n\
-    /disk 1.1 file 0\n";
-
-/// The events of a takeover: each slot has the number of its host.
-fn takeover(rt: &impl Abort) -> [Event; 13] {
-    let live = SlotState::Live;
-    let commit = swap(rt, 0, 3, 0, [live, live], [Journal::Idle, COMMITTED]);
-    let broken = swap(rt, 1, 5, 0, [live, breaking(1)], [COMMITTED; 2]);
-    let seized = [breaking(1), breaking(2)];
-    [
-        turn(rt, 0, 1, 0, [SlotState::Free, live]),
-        last(commit),
-        turn(rt, 1, 2, 1, [SlotState::Free, live]),
-        broken,
-        last(turn(rt, 1, 5, 1, [live, live])),
-        turn(rt, 2, 2, 2, [SlotState::Free, live]),
-        turn(rt, 2, 3, 2, [live, live]),
-        turn(rt, 2, 5, 1, [live, breaking(2)]),
-        turn(rt, 2, 5, 1, [breaking(2), SlotState::Free]),
-        turn(rt, 2, 5, 2, [live, live]),
-        swap(rt, 2, 6, 0, seized, [COMMITTED; 2]),
-        swap(
-            rt,
-            2,
-            6,
-            0,
-            [breaking(2), SlotState::Free],
-            [COMMITTED, Journal::Idle],
-        ),
-        turn(rt, 2, 6, 2, [live, live]),
-    ]
+/// Whether the report of these events, with the tree of a new volume, is this text.
+fn assert_told(
+    rt: &impl Abort,
+    alloc: Global,
+    events: &[Event],
+    replies: &[Reply],
+    want: &[u8],
+) -> Result<(), Fail>
+    requires { AreInOrder replies.now }
+{
+    let scenario = scenario(rt, alloc)?;
+    assert!(rt; scenario.geom.check().is_ok());
+    let tree = Tree::fresh(alloc, &scenario.geom)?;
+    let report = whole(alloc, &scenario, events, replies, &tree)?;
+    assert_eq!(rt; report.as_slice(), want);
+    Ok(())
 }
 
 #[test]
-fn a_takeover_of_two_dead_hosts_is_told(rt: HostRuntime) -> Result<(), Fail> {
+fn hosts_that_die_at_a_commit_and_while_they_break_a_slot(rt: HostRuntime) -> Result<(), Fail> {
     let alloc = rt.alloc();
-    let recovering = How::Recovering {
-        slot: 0,
-        image: slot(breaking(1), 1, COMMITTED),
-        breaker: slot(SlotState::Live, 1, Journal::Idle),
-    };
-    let spot = Spot::Object(0);
-    let busy = HostAnswer::Busy {
-        spot,
-        how: recovering,
-    };
+    let live = SlotState::Live;
+    let commit = swap(&rt, 0, 3, 0, [live, live], [Journal::Idle, COMMITTED]);
     let made = HostAnswer::Tree(TreeReply::Made { key: DISK });
+    assert_told(
+        &rt,
+        alloc,
+        &[turn(&rt, 0, 1, 0, [SlotState::Free, live]), last(commit)],
+        &[
+            reply(0, 0, 1, registered(0), None),
+            reply(1, 0, 3, made, Some(1)),
+        ],
+        b"a 1 register ok 0.1\na 3 create ok 1.1 at 1\na dies\nchanges 1\n/ 0.1 dir\n",
+    )?;
+    let broken = swap(&rt, 1, 5, 0, [live, breaking(1)], [COMMITTED; 2]);
+    let death = last(turn(&rt, 1, 5, 1, [live, live]));
+    assert_told(
+        &rt,
+        alloc,
+        &[turn(&rt, 1, 2, 1, [SlotState::Free, live]), broken, death],
+        &[reply(0, 1, 2, registered(1), None)],
+        b"b 2 register ok 1.1\nb breaks 0.1\nb dies\nchanges 0\n/ 0.1 dir\n",
+    )
+}
+
+#[test]
+fn a_scan_that_breaks_a_slot_and_seizes_another(rt: HostRuntime) -> Result<(), Fail> {
+    let alloc = rt.alloc();
+    let live = SlotState::Live;
     let found = HostAnswer::Tree(TreeReply::Found {
         key: DISK,
         kind: NodeKind::File,
     });
-    let replies = [
-        reply(0, 0, 1, registered(0), None),
-        reply(1, 0, 3, made, Some(1)),
-        reply(2, 1, 2, registered(1), None),
-        reply(5, 2, 2, registered(2), None),
-        reply(6, 2, 3, busy, None),
-        reply(9, 2, 5, HostAnswer::Plain, None),
-        reply(12, 2, 6, found, Some(1)),
-    ];
-    let scenario = scenario(&rt, alloc)?;
-    assert!(rt; scenario.geom.check().is_ok());
-    let mut tree = Tree::fresh(alloc, &scenario.geom)?;
-    create(&rt, &mut tree, ROOT, b"disk")?;
-    let report = whole(alloc, &scenario, &takeover(&rt), &replies, &tree)?;
-    assert_eq!(rt; report.as_slice(), TAKEOVER);
-    Ok(())
+    let freed = [breaking(2), SlotState::Free];
+    assert_told(
+        &rt,
+        alloc,
+        &[
+            turn(&rt, 2, 5, 1, [live, breaking(2)]),
+            turn(&rt, 2, 5, 1, freed),
+            turn(&rt, 2, 5, 2, [live, live]),
+            swap(&rt, 2, 6, 0, [breaking(1), breaking(2)], [COMMITTED; 2]),
+            swap(&rt, 2, 6, 0, freed, [COMMITTED, Journal::Idle]),
+            turn(&rt, 2, 6, 2, [live, live]),
+        ],
+        &[
+            reply(2, 2, 5, HostAnswer::Plain, None),
+            reply(5, 2, 6, found, Some(1)),
+        ],
+        b"c breaks 1.1\n\
+            c frees 1.1\n\
+            c 5 scan ok\n\
+            c seizes 0.1\n\
+            c frees 0.1\n\
+            c 6 lookup ok 1.1 file at 1\n\
+            changes 0\n\
+            / 0.1 dir\n",
+    )
 }
 
 /// One event that breaks, seizes or frees a slot, has a reply and is its host's last.
 #[test]
 fn what_became_of_a_slot_comes_first_and_a_death_last(rt: HostRuntime) -> Result<(), Fail> {
     let alloc = rt.alloc();
-    let scenario = scenario(&rt, alloc)?;
-    assert!(rt; scenario.geom.check().is_ok());
-    let tree = Tree::fresh(alloc, &scenario.geom)?;
     let table = [
         (SlotState::Live, breaking(2), b"c breaks 1.1\n".as_slice()),
         (breaking(0), breaking(2), b"c seizes 1.1\n"),
@@ -303,13 +339,16 @@ fn what_became_of_a_slot_comes_first_and_a_death_last(rt: HostRuntime) -> Result
         (SlotState::Live, SlotState::Free, b""),
     ];
     for (before, after, want) in table {
-        let events = [last(turn(&rt, 2, 5, 1, [before, after]))];
-        let replies = [reply(0, 2, 5, HostAnswer::Plain, None)];
         let mut text = Growing::new(alloc);
         text.bytes(want)?;
         text.bytes(b"c 5 scan ok\nc dies\nchanges 0\n/ 0.1 dir\n")?;
-        let report = whole(alloc, &scenario, &events, &replies, &tree)?;
-        assert_eq!(rt; report.as_slice(), text.into_bytes().as_slice());
+        assert_told(
+            &rt,
+            alloc,
+            &[last(turn(&rt, 2, 5, 1, [before, after]))],
+            &[reply(0, 2, 5, HostAnswer::Plain, None)],
+            text.into_bytes().as_slice(),
+        )?;
     }
     Ok(())
 }
@@ -325,41 +364,36 @@ fn read(host: u8, directive: u32, byte: u8) -> Event {
     )
 }
 
+fn got(block: u32) -> HostAnswer {
+    HostAnswer::Tree(TreeReply::AtBlock { block })
+}
+
 #[test]
 fn a_get_tells_the_first_byte_that_its_last_read_gave(rt: HostRuntime) -> Result<(), Fail> {
     let alloc = rt.alloc();
-    let scenario = scenario(&rt, alloc)?;
-    assert!(rt; scenario.geom.check().is_ok());
-    let tree = Tree::fresh(alloc, &scenario.geom)?;
     let live = SlotState::Live;
-    let events = [
-        read(1, 2, 1),
-        read(1, 3, 9),
-        read(1, 3, 7),
-        read(2, 4, 5),
-        turn(&rt, 1, 3, 1, [live, live]),
-        turn(&rt, 2, 4, 2, [live, live]),
-        read(1, 3, 8),
-        turn(&rt, 2, 6, 2, [live, live]),
-    ];
-    let got = |block| HostAnswer::Tree(TreeReply::AtBlock { block });
-    let replies = [
-        reply(4, 1, 3, got(41), Some(2)),
-        reply(5, 2, 4, HostAnswer::NotOpen, None),
-        reply(7, 2, 6, got(3), Some(2)),
-    ];
-    let report = whole(alloc, &scenario, &events, &replies, &tree)?;
-    let want =
-        b"b 3 get ok 41 7 at 2\nc 4 get not-open\nc 6 lookup ok 3 at 2\nchanges 0\n/ 0.1 dir\n";
-    assert_eq!(rt; report.as_slice(), want.as_slice());
-    let report = whole(
+    assert_told(
+        &rt,
         alloc,
-        &scenario,
-        &events[4..],
-        &[reply(1, 2, 4, got(0), Some(0))],
-        &tree,
+        &[
+            read(1, 2, 1),
+            read(1, 3, 9),
+            read(1, 3, 7),
+            read(2, 3, 5),
+            turn(&rt, 1, 3, 1, [live, live]),
+            read(1, 3, 8),
+        ],
+        &[reply(4, 1, 3, got(41), Some(2))],
+        b"b 3 get ok 41 7 at 2\nchanges 0\n/ 0.1 dir\n",
     )?;
-    let want = b"c 4 get ok 0 at 0\nchanges 0\n/ 0.1 dir\n";
-    assert_eq!(rt; report.as_slice(), want.as_slice());
-    Ok(())
+    assert_told(
+        &rt,
+        alloc,
+        &[read(2, 6, 5), turn(&rt, 2, 4, 2, [live, live])],
+        &[
+            reply(0, 2, 6, got(3), Some(2)),
+            reply(1, 2, 4, got(0), Some(0)),
+        ],
+        b"c 6 lookup ok 3 at 2\nc 4 get ok 0 at 0\nchanges 0\n/ 0.1 dir\n",
+    )
 }

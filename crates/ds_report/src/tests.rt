@@ -7,10 +7,8 @@ use crate::growing::Growing;
 use crate::listing;
 use crate::reports::{text, whole};
 use arrayvec::ArrayVec;
-use ds_base::{Command, Gen, Geom, Key, Kind, Name, NodeKind, Response, Sector, Word};
-use ds_host::{HostAnswer, Spot};
-use ds_lock::How;
-use ds_marks::{Journal, Slot, SlotState};
+use ds_base::{Command, Geom, Key, Kind, Name, NodeKind, Response, Sector, Word};
+use ds_host::HostAnswer;
 use ds_tree::{
     Call, CallOf, Directive, HostCallOf, HostPlan, Items, Scenario, Spoken, Tree, TreeReply,
 };
@@ -152,52 +150,6 @@ fn each_answer_has_its_text(rt: HostRuntime) -> Result<(), Fail> {
     Ok(())
 }
 
-/// A slot in a generation, whose host has shown itself once if it isn't free.
-fn slot(state: SlotState, generation: Gen, journal: Journal) -> Slot {
-    Slot {
-        state,
-        generation,
-        host: Uuid::nil(),
-        stamp: if state == SlotState::Free { 0 } else { 1 },
-        journal,
-    }
-}
-
-const COMMITTED: Journal = Journal::Committed { txn: 1, count: 5 };
-
-fn breaking(by: u8, by_generation: Gen) -> SlotState {
-    SlotState::Breaking { by, by_generation }
-}
-
-#[test]
-fn a_busy_answer_tells_what_is_busy_and_how(rt: HostRuntime) -> Result<(), Fail> {
-    let held = How::Held {
-        slot: 0,
-        image: slot(SlotState::Live, 3, Journal::Idle),
-    };
-    let recovering = How::Recovering {
-        slot: 2,
-        image: slot(breaking(1, 4), 5, COMMITTED),
-        breaker: slot(SlotState::Live, 6, Journal::Idle),
-    };
-    let object = Spot::Object(2072);
-    let own = Spot::Slot(3);
-    let table = [
-        (object, held, b"busy held 2072 0.3".as_slice()),
-        (own, held, b"busy held slot-3 0.3"),
-        (object, recovering, b"busy recovering 2072 2.5 1.4"),
-        (own, recovering, b"busy recovering slot-3 2.5 1.4"),
-        (object, How::Raced, b"busy raced 2072"),
-        (own, How::Raced, b"busy raced slot-3"),
-    ];
-    for (spot, how, want) in table {
-        let mut text = Growing::new(rt.alloc());
-        write_answer(&mut text, &HostAnswer::Busy { spot, how })?;
-        assert_eq!(rt; text.into_bytes().as_slice(), want);
-    }
-    Ok(())
-}
-
 fn call(call: HostCallOf<Spoken>) -> Directive {
     Directive::Call { call, bind: None }
 }
@@ -282,7 +234,7 @@ fn step(rt: &impl Abort, tree: &mut Tree, call: &Call) -> Result<(), Fail>
     Ok(())
 }
 
-pub(crate) fn create(rt: &impl Abort, tree: &mut Tree, dir: Key, bytes: &[u8]) -> Result<(), Fail> {
+fn create(rt: &impl Abort, tree: &mut Tree, dir: Key, bytes: &[u8]) -> Result<(), Fail> {
     let name = word(rt, bytes);
     step(rt, tree, &CallOf::Create { dir, name })
 }

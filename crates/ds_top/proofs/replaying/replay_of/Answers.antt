@@ -20,4 +20,4 @@ returns c =
     let Q : LogValue → Type 0 = λ l. (u : FileTree) → first_rules.StandsFor (store first_rules.start l.events) u → u ≡ c.in_ok-tree.tree.tree in
     replayed c.args.scenario.now w.scenario log c.into_log-log.result c.in_ok-tree.tree.tree c.in_ok-text.text.items c.requires same
     (c.into_log-log.ensures ∙ sym is) c.log.ensures.law c.log.ensures.follows (c.log.ensures.end c.in_ok-run_to_end.ensures.end) c.log.ensures.order c.log.ensures.counted
-    (subst Q (sym is) c.in_ok-tree.ensures.only) c.in_ok-text.ensures
+    (subst Q (sym is) c.in_ok-tree.ensures.only) c.in_ok-text.ensures.report
