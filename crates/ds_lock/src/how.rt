@@ -7,7 +7,10 @@ use ds_marks::Slot;
 #[derive(Clone, Copy, Debug, PartialEq, Eq)]
 pub enum How {
     /// The slot's generation owns it, and isn't judged dead.
-    Held { slot: SlotNo, image: Slot },
+    Held {
+        slot: SlotNo,
+        image: Slot,
+    },
     /// The slot's generation owns it and is being broken, by a generation that isn't over: `breaker` is the image of
     /// the breaker's slot.
     Recovering {

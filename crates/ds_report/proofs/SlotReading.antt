@@ -10,7 +10,7 @@ use Rattle.ds_base.specs.Decoding.{IsDecoded}
 use Rattle.ds_bytes.specs.Fields.{little, front, spelled, AllBelow, FieldsFit}
 use Rattle.ds_bytes.proofs.Fronts.{front_read, front_none}
 use Rattle.ds_bytes.proofs.Readings.{CanRead, AllBelow-take, AllBelow-drop}
-use Rattle.ds_marks.specs.Slot.{txn_of, IsBreaker, IsOfState, IsOfJournal, HasWidths, InRanges, IsSlot, slot_bytes}
+use Rattle.ds_marks.specs.Slot.{txn_of, IsOfState, IsOfJournal, IsSlot, slot_bytes}
 use Rattle.ds_marks.specs.SlotParts.{part_fields, slot_of}
 use Rattle.ds_marks.specs.declared.slot.Slot.{Slot}
 use Rattle.ds_marks.specs.declared.slot.SlotState.{SlotState}

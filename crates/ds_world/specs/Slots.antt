@@ -1,7 +1,7 @@
 -- The slot that a sector spells.
 use Rattle.std.specs.Prelude.{ℕ, ◌+◌, ◌*◌, ◌^◌, ◌&&◌, ◌==◌, Bool, true, false, nat_le, nat_lt, if◌then◌else◌, List, [], ◌∷◌, length, take, drop, replicate, Option, Some, None}
 use Rattle.std.specs.Str.{bytes_eq}
-use Rattle.ds_marks.specs.Slot.{txn_of, slot_bytes}
+use Rattle.ds_marks.specs.Slot.{slot_bytes}
 use Rattle.ds_marks.specs.SlotParts.{slot_of}
 use Rattle.ds_marks.specs.declared.slot.Slot.{Slot}
 use Rattle.ds_marks.specs.declared.slot.SlotState.{SlotState}
