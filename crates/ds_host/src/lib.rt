@@ -5,5 +5,5 @@ mod answers;
 mod first_host;
 mod rooms;
 
-pub use answers::HostAnswer;
+pub use answers::{HostAnswer, Spot};
 pub use first_host::{FirstHost, RootCall, Stage};

@@ -9,6 +9,7 @@ use Rattle.std.proofs.Math.Seq.{drop-cons}
 use Rattle.ds_tree.specs.declared.scenarios.Scenario.{Scenario}
 use Rattle.ds_world.specs.declared.logs.Event.{Event}
 use Rattle.ds_world.specs.declared.logs.Reply.{Reply}
+use Rattle.ds_report.specs.Slots.{slot_line}
 use Rattle.ds_report.specs.Report.{AreInOrder, given_in, reply_line, event_part, parts_of, death_line}
 
 abbrev pub IsRising : List Reply → Type 0
@@ -88,7 +89,7 @@ IsTold-next replies (r ∷ rest) n told =
 pub record IsToldTo (s : Scenario) (events : List Event) (replies : List Reply) (old text : List ℕ) (told n : ℕ) : Type 0 where
   pub in_range : told ≤ length replies
   pub rest : IsTold replies (drop told replies) n
-  pub parts : text ++ flat_map (λ e. event_part s replies e) (enumerate_from n (drop n events)) ≡ old ++ parts_of s events replies
+  pub parts : text ++ flat_map (λ e. event_part s events replies e) (enumerate_from n (drop n events)) ≡ old ++ parts_of s events replies
 
 given_fits : (rest : List Reply) (n : ℕ) → length (given_in (take 1 rest) n) ≤ length rest
 given_fits [] n = omega arith
@@ -102,14 +103,24 @@ regroup : (text lines death rest : List ℕ) → text ++ lines ++ death ++ rest 
 regroup text lines death rest =
     append_assoc (text ++ lines) death rest ∙ (append_assoc text lines (death ++ rest) ∙ ap (λ l. text ++ l) (sym (append_assoc lines death rest)))
 
+regroup_part : (text slot lines death rest : List ℕ) → text ++ slot ++ lines ++ death ++ rest ≡ text ++ (slot ++ lines ++ death ++ rest)
+regroup_part text slot lines death rest =
+    regroup (text ++ slot) lines death rest ∙ (append_assoc text slot (lines ++ death ++ rest) ∙ ap (λ l. text ++ l) (sym (regroup slot lines death rest)))
+
+-- the text with what is told of one more event: what it did to a slot, its replies, and a death
+pub record TellsEvent (s : Scenario) (events : List Event) (given : List Reply) (n : ℕ) (e : Event) (text slotted replied died : List ℕ) : Type 0 where
+  pub slot : slotted ≡ text ++ slot_line s e
+  pub lines : replied ≡ slotted ++ flat_map (λ r. reply_line s (take (n + 1) events) r) given
+  pub death : died ≡ replied ++ death_line s e
+
 -- one more event is told
-pub IsToldTo-next : (s : Scenario) (events : List Event) (replies : List Reply) (old text text' text'' : List ℕ) (told count n : ℕ) (e : Event) → IsToldTo s events replies old text told n → n < length events → e ≡ slice_index_or events n e → count ≡ length (given_in (take 1 (drop told replies)) n) → text' ≡ text ++ flat_map (λ r. reply_line s r) (given_in (take 1 (drop told replies)) n) → text'' ≡ text' ++ death_line s e → IsToldTo s events replies old text'' (told + count) (n + 1)
-IsToldTo-next s events replies old text text' text'' told count n e before in_range is_event counted written died =
+pub IsToldTo-next : (s : Scenario) (events : List Event) (replies : List Reply) (old text slotted replied died : List ℕ) (told count n : ℕ) (e : Event) → IsToldTo s events replies old text told n → n < length events → e ≡ slice_index_or events n e → count ≡ length (given_in (take 1 (drop told replies)) n) → TellsEvent s events (given_in (take 1 (drop told replies)) n) n e text slotted replied died → IsToldTo s events replies old died (told + count) (n + 1)
+IsToldTo-next s events replies old text slotted replied died told count n e before in_range is_event counted tells =
     let rest = drop told replies in
     let next = IsTold-next replies rest n before.rest in
     let given : given_in replies n ≡ given_in (take 1 rest) n = before.rest.same n (omega arith) ∙ next.0 in
-    let lines = flat_map (λ r. reply_line s r) (given_in (take 1 rest) n) in
-    let after = flat_map (λ f. event_part s replies f) (enumerate_from (n + 1) (drop (n + 1) events)) in
+    let lines = λ (given : List Reply). flat_map (λ r. reply_line s (take (n + 1) events) r) given in
+    let after = flat_map (λ f. event_part s events replies f) (enumerate_from (n + 1) (drop (n + 1) events)) in
     let more : suc n ≡ n + 1 = omega arith in
     let here : drop n events ≡ e ∷ drop (n + 1) events =
     drop-cons events n e in_range ∙ (ap (λ f. f ∷ drop (suc n) events) (sym is_event) ∙ ap (λ k. e ∷ drop k events) more) in
@@ -117,8 +128,8 @@ IsToldTo-next s events replies old text text' text'' told count n e before in_ra
       in_range = omega (arith, given_fits rest n, length-drop told replies, counted, before.in_range);
       rest = rw (counted, ← drop-drop (length (given_in (take 1 rest) n)) told replies) next.1;
       parts =
-          ap (λ t. t ++ after) (died ∙ ap (λ t. t ++ death_line s e) written)
-          ∙ (regroup text lines (death_line s e) after
-          ∙ (ap (λ l. text ++ (flat_map (λ r. reply_line s r) l ++ death_line s e ++ after)) (sym given)
-          ∙ (ap (λ l. text ++ flat_map (λ f. event_part s replies f) (enumerate_from n l)) (sym here) ∙ before.parts)));
+          ap (λ t. t ++ after) (tells.death ∙ ap (λ t. t ++ death_line s e) (tells.lines ∙ ap (λ t. t ++ lines (given_in (take 1 rest) n)) tells.slot))
+          ∙ (regroup_part text (slot_line s e) (lines (given_in (take 1 rest) n)) (death_line s e) after
+          ∙ (ap (λ l. text ++ (slot_line s e ++ lines l ++ death_line s e ++ after)) (sym given)
+          ∙ (ap (λ l. text ++ flat_map (λ f. event_part s events replies f) (enumerate_from n l)) (sym here) ∙ before.parts)));
     }

@@ -1,2 +1,5 @@
+mod FirstItem
 mod Given
 mod NextEntries
+mod SlotReading
+mod TurnsTold

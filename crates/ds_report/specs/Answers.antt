@@ -9,7 +9,12 @@ use Rattle.ds_base.specs.declared.names.NodeKind.TheVariants.{File, Dir}
 use Rattle.ds_tree.specs.declared.calls.TreeReply.{TreeReply}
 use Rattle.ds_tree.specs.declared.calls.TreeReply.TheVariants as replies
 use Rattle.ds_host.specs.declared.answers.HostAnswer.{HostAnswer}
-use Rattle.ds_host.specs.declared.answers.HostAnswer.TheVariants.{Tree, Registered, Damaged}
+use Rattle.ds_host.specs.declared.answers.HostAnswer.TheVariants.{Tree, Registered, Plain, BadName, Unregistered, NotOpen, StillOpen, OpenFull, Busy, NoSlot, Fenced, LeaseLost, DeviceFault, InDoubt, Damaged, WornOut}
+use Rattle.ds_host.specs.declared.answers.Spot.{Spot}
+use Rattle.ds_host.specs.declared.answers.Spot.TheVariants as spots
+use Rattle.ds_lock.specs.declared.how.How.{How}
+use Rattle.ds_lock.specs.declared.how.How.TheVariants.{Held, Recovering, Raced}
+use Rattle.ds_marks.specs.Slot.{breaker_of, breaker_generation_of}
 
 -- two numbers with a dot between them: an object and its birth, or a slot and its generation
 abbrev pub pair_text : ℕ → ℕ → List ℕ
@@ -62,10 +67,36 @@ tree_text replies.TooMuch = codes "too-much"
 tree_text replies.CrossDir = codes "cross-dir"
 tree_text replies.NoBlock = codes "no-block"
 
+-- what is busy: a lock object by its number, or a slot
+abbrev pub spot_text : Spot → List ℕ
+spot_text (spots.Object object) = decimal object
+spot_text (spots.Slot slot) = codes "slot-" ++ decimal slot
+
+-- how it is busy: held by a slot's generation, or that and the breaker which the slot's own image names
+abbrev pub busy_text : Spot → How → List ℕ
+busy_text spot (Held slot image) = codes "busy held " ++ spot_text spot ++ codes " " ++ pair_text slot image.generation
+busy_text spot (Recovering slot image breaker) =
+    codes "busy recovering " ++ spot_text spot ++ codes " " ++ pair_text slot image.generation
+    ++ codes " " ++ pair_text (breaker_of image.state) (breaker_generation_of image.state)
+busy_text spot Raced = codes "busy raced " ++ spot_text spot
+
 abbrev pub answer_text : HostAnswer → List ℕ
 answer_text (Tree reply) = tree_text reply
 answer_text (Registered slot generation) = codes "ok " ++ pair_text slot generation
+answer_text Plain = codes "ok"
+answer_text BadName = codes "bad-name"
+answer_text Unregistered = codes "unregistered"
+answer_text NotOpen = codes "not-open"
+answer_text StillOpen = codes "still-open"
+answer_text OpenFull = codes "open-full"
+answer_text (Busy spot how) = busy_text spot how
+answer_text NoSlot = codes "no-slot"
+answer_text (Fenced offset) = codes "fenced " ++ decimal offset
+answer_text (LeaseLost now last) = codes "lease-lost " ++ decimal now ++ codes " " ++ decimal last
+answer_text DeviceFault = codes "device-fault"
+answer_text InDoubt = codes "in-doubt"
 answer_text (Damaged sector) = codes "damaged " ++ decimal sector
+answer_text WornOut = codes "worn-out"
 
 -- the place of an answer of the file tree; no other answer has one
 abbrev pub place_text : HostAnswer → Option ℕ → List ℕ

@@ -1,3 +1,6 @@
 pub mod Answers
+pub mod Hosts
+pub mod Slots
 pub mod Listing
 pub mod Report
+pub mod Turns

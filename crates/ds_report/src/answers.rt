@@ -1,11 +1,14 @@
 //! The texts of answers.
 ghost use Rattle.std.specs.Prelude.{◌≡◌, ◌++◌, OnOk, codes, decimal};
 ghost use Rattle.std.specs.List.{flat_map};
-ghost use Rattle.ds_report.specs.Answers.{answer_text, tree_text, no_space_text, key_text, kind_text, entry_text, item_text, place_text};
+ghost use Rattle.ds_marks.specs.Slot.{breaker_of, breaker_generation_of};
+ghost use Rattle.ds_report.specs.Answers.{answer_text, busy_text, spot_text, pair_text, tree_text, no_space_text, key_text, kind_text, entry_text, item_text, place_text};
 
 use crate::growing::Growing;
-use ds_base::{Key, Kind, Name, NoMemory, NodeKind};
-use ds_host::HostAnswer;
+use ds_base::{Key, Kind, Name, NoMemory, NodeKind, Tick};
+use ds_host::{HostAnswer, Spot};
+use ds_lock::How;
+use ds_marks::SlotState;
 use ds_tree::TreeReply;
 
 pub(crate) fn write_answer(text: &mut Growing, answer: &HostAnswer) -> Result<(), NoMemory>
@@ -17,11 +20,85 @@ pub(crate) fn write_answer(text: &mut Growing, answer: &HostAnswer) -> Result<()
             text.bytes(b"ok ")?;
             text.pair(u64::from(*slot), *generation)
         }
+        HostAnswer::Plain => text.bytes(b"ok"),
+        HostAnswer::BadName => text.bytes(b"bad-name"),
+        HostAnswer::Unregistered => text.bytes(b"unregistered"),
+        HostAnswer::NotOpen => text.bytes(b"not-open"),
+        HostAnswer::StillOpen => text.bytes(b"still-open"),
+        HostAnswer::OpenFull => text.bytes(b"open-full"),
+        HostAnswer::Busy { spot, how } => write_busy(text, *spot, how),
+        HostAnswer::NoSlot => text.bytes(b"no-slot"),
+        HostAnswer::Fenced { offset } => {
+            text.bytes(b"fenced ")?;
+            text.number(u64::from(*offset))
+        }
+        HostAnswer::LeaseLost { now, last } => {
+            text.bytes(b"lease-lost ")?;
+            write_ticks(text, *now, *last)
+        }
+        HostAnswer::DeviceFault => text.bytes(b"device-fault"),
+        HostAnswer::InDoubt => text.bytes(b"in-doubt"),
         HostAnswer::Damaged { sector } => {
             text.bytes(b"damaged ")?;
             text.number(u64::from(*sector))
         }
+        HostAnswer::WornOut => text.bytes(b"worn-out"),
     }
+}
+
+fn write_busy(text: &mut Growing, spot: Spot, how: &How) -> Result<(), NoMemory>
+    ensures { OnOk result (text.new ≡ text.old ++ busy_text spot how.now) }
+{
+    match how {
+        How::Held { slot, image } => {
+            text.bytes(b"busy held ")?;
+            write_spot(text, spot)?;
+            text.bytes(b" ")?;
+            text.pair(u64::from(*slot), image.generation)
+        }
+        How::Recovering { slot, image, .. } => {
+            text.bytes(b"busy recovering ")?;
+            write_spot(text, spot)?;
+            text.bytes(b" ")?;
+            text.pair(u64::from(*slot), image.generation)?;
+            text.bytes(b" ")?;
+            write_breaker(text, image.state)
+        }
+        How::Raced => {
+            text.bytes(b"busy raced ")?;
+            write_spot(text, spot)
+        }
+    }
+}
+
+fn write_spot(text: &mut Growing, spot: Spot) -> Result<(), NoMemory>
+    ensures { OnOk result (text.new ≡ text.old ++ spot_text spot) }
+{
+    match spot {
+        Spot::Object(object) => text.number(u64::from(object)),
+        Spot::Slot(slot) => {
+            text.bytes(b"slot-")?;
+            text.number(u64::from(slot))
+        }
+    }
+}
+
+/// The breaker that a slot's image names.
+fn write_breaker(text: &mut Growing, state: SlotState) -> Result<(), NoMemory>
+    ensures { OnOk result (text.new ≡ text.old ++ pair_text (breaker_of state) (breaker_generation_of state)) }
+{
+    match state {
+        SlotState::Breaking { by, by_generation } => text.pair(u64::from(by), by_generation),
+        SlotState::Free | SlotState::Live => text.pair(0, 0),
+    }
+}
+
+fn write_ticks(text: &mut Growing, now: Tick, last: Tick) -> Result<(), NoMemory>
+    ensures { OnOk result (text.new ≡ text.old ++ (decimal now ++ codes " " ++ decimal last)) }
+{
+    text.number(now)?;
+    text.bytes(b" ")?;
+    text.number(last)
 }
 
 pub(crate) fn write_place(
@@ -132,7 +209,7 @@ fn write_blocks(text: &mut Growing, blocks: &[u32]) -> Result<(), NoMemory>
     Ok(())
 }
 
-fn write_item(text: &mut Growing, number: u32) -> Result<(), NoMemory>
+pub(crate) fn write_item(text: &mut Growing, number: u32) -> Result<(), NoMemory>
     ensures { OnOk result (text.new ≡ text.old ++ item_text number) }
 {
     text.bytes(b" ")?;

@@ -2,13 +2,19 @@
 #![tactic(auto)]
 
 mod answers;
+mod changes;
 mod growing;
+mod hosts;
 mod listings;
+mod reads;
 mod replies;
 mod reports;
+mod slots;
 
 pub use listings::listing;
 pub use reports::text;
 
+#[cfg(test)]
+mod slot_tests;
 #[cfg(test)]
 mod tests;

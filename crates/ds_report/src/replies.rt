@@ -1,52 +1,67 @@
 //! The lines of replies.
-ghost use Rattle.std.specs.Prelude.{◌≡◌, ◌++◌, OnOk, option_copied, decimal, codes};
+ghost use Rattle.std.specs.Prelude.{◌≡◌, ◌++◌, OnOk, option_copied};
 ghost use Rattle.ds_world.specs.Scripts.{directive_at};
-ghost use Rattle.ds_report.specs.Report.{reply_line, host_name, word_of, call_word};
+ghost use Rattle.ds_report.specs.Report.{reply_line, directive_text, outcome_text, word_of, call_word};
 
 use crate::answers::{write_answer, write_place};
 use crate::growing::Growing;
+use crate::hosts::host_name;
+use crate::reads::write_read;
 use ds_base::{HostNo, NoMemory};
 use ds_tree::{CallOf, Directive, HostCallOf, Scenario, Spoken};
-use ds_world::Reply;
+use ds_world::{Event, Reply};
 
+/// Writes the line of a reply. The events are those up to the reply.
 pub(crate) fn write_line(
     text: &mut Growing,
     scenario: &Scenario,
+    past: &[Event],
     reply: &Reply,
 ) -> Result<(), NoMemory>
-    ensures { OnOk result (text.new ≡ text.old ++ reply_line scenario.now reply.now) }
+    ensures { OnOk result (text.new ≡ text.old ++ reply_line scenario.now past.now reply.now) }
 {
-    write_directive(text, scenario, reply.host, reply.directive)?;
-    text.bytes(b" ")?;
-    write_answer(text, &reply.answer)?;
-    write_place(text, &reply.answer, reply.place)?;
+    let directive = directive_at(scenario, reply.host, reply.directive);
+    write_directive(
+        text,
+        host_name(scenario, reply.host),
+        reply.directive,
+        directive,
+    )?;
+    write_outcome(text, directive, past, reply)?;
     text.bytes(b"\n")
 }
 
-/// The host, the number and the first word of a directive.
+/// The host, the number and the first word of a directive, each with a blank after it.
 fn write_directive(
     text: &mut Growing,
-    scenario: &Scenario,
-    host: HostNo,
+    host: &[u8],
     number: u32,
+    directive: Option<&Directive>,
 ) -> Result<(), NoMemory>
     ensures { OnOk result (text.new ≡ text.old
-        ++ (host_name scenario.now host ++ codes " " ++ decimal number ++ codes " " ++ word_of (directive_at scenario.now host number))) }
+        ++ directive_text host.now number (option_copied directive.entry)) }
 {
-    text.bytes(host_name(scenario, host))?;
+    text.bytes(host)?;
     text.bytes(b" ")?;
     text.number(u64::from(number))?;
     text.bytes(b" ")?;
-    text.bytes(word(directive_at(scenario, host, number)))
+    text.bytes(word(directive))?;
+    text.bytes(b" ")
 }
 
-pub(crate) fn host_name(scenario: &Scenario, host: HostNo) -> &[u8]
-    ensures { result.now ≡ host_name scenario.now host }
+/// The answer, the byte that was read and the place.
+fn write_outcome(
+    text: &mut Growing,
+    directive: Option<&Directive>,
+    past: &[Event],
+    reply: &Reply,
+) -> Result<(), NoMemory>
+    ensures { OnOk result (text.new ≡ text.old
+        ++ outcome_text (option_copied directive.entry) past.now reply.now) }
 {
-    match scenario.hosts.as_slice().get(usize::from(host)) {
-        Some(plan) => plan.name.bytes(),
-        None => &[],
-    }
+    write_answer(text, &reply.answer)?;
+    write_read(text, directive, past, reply)?;
+    write_place(text, &reply.answer, reply.place)
 }
 
 fn directive_at(scenario: &Scenario, host: HostNo, number: u32) -> Option<&Directive>

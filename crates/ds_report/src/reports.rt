@@ -1,22 +1,30 @@
 //! The report of a run.
-ghost use Rattle.std.specs.Prelude.{◌≡◌, ◌++◌, length, take, OnOk, IfOk, codes, decimal};
+ghost use Rattle.std.specs.Prelude.{◌≡◌, ◌+◌, ◌<◌, ◌++◌, length, take, OnOk, IfOk, codes, decimal};
 ghost use Rattle.std.specs.List.{flat_map};
-ghost use Rattle.ds_world.specs.Store.{change_count, has_taken};
+ghost use Rattle.ds_base.specs.Geometry.{IsGeom};
+ghost use Rattle.ds_world.specs.Store.{change_count};
+ghost use Rattle.ds_world.specs.declared.logs.Event.{Event};
+ghost use Rattle.ds_report.specs.Turns.{TellsTurns};
 ghost use Rattle.ds_report.specs.Report.{AreInOrder, report_of, parts_of, given_in, death_line, reply_line};
 ghost use Rattle.ds_tree.specs.FirstForm.{line};
 
+use crate::changes::is_change;
 use crate::growing::Growing;
+use crate::hosts::host_name;
 use crate::listings::write_listing;
-use crate::replies::{host_name, write_line};
+use crate::replies::write_line;
+use crate::slots::write_slot_line;
 use ds_base::NoMemory;
 use ds_tree::{Scenario, Tree};
-use ds_world::{Event, Log, Reply, Step};
+use ds_world::{Event, Log, Reply};
 use std::alloc::Global;
 
 /// The report of a run of this scenario, from the log of the run and the tree that it left.
 pub fn text(alloc: Global, scenario: &Scenario, log: &Log, tree: &Tree) -> Result<Vec<u8>, NoMemory>
-    requires { AreInOrder log.now.replies }
-    ensures { IfOk result (λ text. text.items ≡ report_of scenario.now log.now.events log.now.replies tree.now.tree) }
+    requires geometry { IsGeom scenario.now.geom }
+    requires order { AreInOrder log.now.replies }
+    ensures report { IfOk result (λ text. text.items ≡ report_of scenario.now log.now.events log.now.replies tree.now.tree) }
+    ensures turns { (event : Event) → TellsTurns scenario.now event }
 {
     whole(alloc, scenario, log.events(), log.replies(), tree)
 }
@@ -29,7 +37,8 @@ pub(crate) fn whole(
     replies: &[Reply],
     tree: &Tree,
 ) -> Result<Vec<u8>, NoMemory>
-    requires { AreInOrder replies.now }
+    requires geometry { IsGeom scenario.now.geom }
+    requires order { AreInOrder replies.now }
     ensures { IfOk result (λ text. text.items ≡ report_of scenario.now events.now replies.now tree.now.tree) }
 {
     let mut text = Growing::new(alloc);
@@ -42,19 +51,10 @@ pub(crate) fn whole(
 fn write_changes(text: &mut Growing, events: &[Event]) -> Result<(), NoMemory>
     ensures { OnOk result (text.new ≡ text.old ++ line (codes "changes " ++ decimal (change_count events.now))) }
 {
-    let changes = events.iter().filter(|event| has_taken(&event.step)).count();
+    let changes = events.iter().filter(|event| is_change(&event.step)).count();
     text.bytes(b"changes ")?;
     text.number(changes as u64)?;
     text.bytes(b"\n")
-}
-
-fn has_taken(step: &Step) -> bool
-    ensures { result ≡ has_taken step.now }
-{
-    match step {
-        Step::Local => false,
-        Step::Sent { took, .. } => *took,
-    }
 }
 
 fn write_parts(
@@ -63,12 +63,14 @@ fn write_parts(
     events: &[Event],
     replies: &[Reply],
 ) -> Result<(), NoMemory>
-    requires { AreInOrder replies.now }
+    requires geometry { IsGeom scenario.now.geom }
+    requires order { AreInOrder replies.now }
     ensures { OnOk result (text.new ≡ text.old ++ parts_of scenario.now events.now replies.now) }
 {
     let mut told = 0;
     for (number, event) in events.iter().enumerate() {
-        told += write_reply_in(text, scenario, &replies[told..], number)?;
+        write_slot_line(text, scenario, event)?;
+        told += write_reply_in(text, scenario, events, &replies[told..], number)?;
         write_death(text, scenario, event)?;
     }
     Ok(())
@@ -79,16 +81,18 @@ fn write_parts(
 fn write_reply_in(
     text: &mut Growing,
     scenario: &Scenario,
+    events: &[Event],
     replies: &[Reply],
     number: usize,
 ) -> Result<usize, NoMemory>
+    requires { number < length events.now }
     ensures count { IfOk result (λ count. count ≡ length (given_in (take 1 replies.now) number)) }
     ensures lines { OnOk result (text.new ≡ text.old
-        ++ flat_map (λ r. reply_line scenario.now r) (given_in (take 1 replies.now) number)) }
+        ++ flat_map (λ r. reply_line scenario.now (take (number + 1) events.now) r) (given_in (take 1 replies.now) number)) }
 {
     match replies.first() {
         Some(reply) if reply.event == number => {
-            write_line(text, scenario, reply)?;
+            write_line(text, scenario, &events[..number + 1], reply)?;
             Ok(1)
         }
         _ => Ok(0),

@@ -43,7 +43,22 @@ fn each_answer_has_its_text(rt: HostRuntime) -> Result<(), Fail> {
             },
             b"ok 3.17".as_slice(),
         ),
+        (HostAnswer::Plain, b"ok"),
+        (HostAnswer::BadName, b"bad-name"),
+        (HostAnswer::Unregistered, b"unregistered"),
+        (HostAnswer::NotOpen, b"not-open"),
+        (HostAnswer::StillOpen, b"still-open"),
+        (HostAnswer::OpenFull, b"open-full"),
+        (HostAnswer::NoSlot, b"no-slot"),
+        (HostAnswer::Fenced { offset: 4 }, b"fenced 4"),
+        (
+            HostAnswer::LeaseLost { now: 16, last: 0 },
+            b"lease-lost 16 0",
+        ),
+        (HostAnswer::DeviceFault, b"device-fault"),
+        (HostAnswer::InDoubt, b"in-doubt"),
         (HostAnswer::Damaged { sector: 4096 }, b"damaged 4096"),
+        (HostAnswer::WornOut, b"worn-out"),
         (
             HostAnswer::Tree(TreeReply::Made { key: key(12, 1) }),
             b"ok 12.1",
@@ -316,16 +331,18 @@ fn a_report_has_a_part_for_each_event(rt: HostRuntime) -> Result<(), Fail> {
         swap(0, 3, true, true),
     ];
     let tree = tree(&rt, alloc)?;
+    let scenario = scenario(&rt, alloc)?;
+    assert!(rt; scenario.geom.check().is_ok());
     let mut want = Growing::new(alloc);
     want.bytes(PARTS)?;
     want.bytes(LISTING)?;
-    let report = whole(alloc, &scenario(&rt, alloc)?, &events, &replies, &tree)?;
+    let report = whole(alloc, &scenario, &events, &replies, &tree)?;
     assert_eq!(rt; report.as_slice(), want.into_bytes().as_slice());
     assert_eq!(rt; listing(alloc, &tree)?.as_slice(), LISTING);
     let mut want = Growing::new(alloc);
     want.bytes(b"changes 0\n")?;
     want.bytes(LISTING)?;
-    let empty = text(alloc, &scenario(&rt, alloc)?, &Log::new(alloc), &tree)?;
+    let empty = text(alloc, &scenario, &Log::new(alloc), &tree)?;
     assert_eq!(rt; empty.as_slice(), want.into_bytes().as_slice());
     Ok(())
 }

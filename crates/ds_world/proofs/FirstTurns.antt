@@ -20,7 +20,7 @@ use Rattle.ds_tree.specs.Nodes.{FileTree, root_key}
 use Rattle.ds_tree.specs.Steps.{Does}
 use Rattle.ds_tree.proofs.StepKeeps.{step-keeps}
 use Rattle.ds_host.specs.declared.answers.HostAnswer.{HostAnswer}
-use Rattle.ds_host.specs.declared.answers.HostAnswer.TheVariants.{Tree, Registered, Damaged}
+use Rattle.ds_host.specs.declared.answers.HostAnswer.TheVariants.{Tree, Registered}
 use Rattle.ds_host.specs.declared.first_host.RootCall.{RootCall}
 use Rattle.ds_host.specs.declared.first_host.RootCall.TheVariants.{Create, Lookup}
 use Rattle.ds_host.specs.declared.first_host.Stage.{Stage}
@@ -32,7 +32,7 @@ use Rattle.ds_dir.specs.declared.sub_block.SubBlock.{SubBlock}
 use Rattle.ds_world.specs.declared.logs.Step.TheVariants.{Sent}
 use Rattle.ds_world.specs.declared.logs.Event.{Event}
 use Rattle.ds_world.specs.declared.logs.Reply.{Reply}
-use Rattle.ds_world.specs.Store.{store, after_step, has_taken, change_count}
+use Rattle.ds_world.specs.Store.{store, after_step, is_change, change_count}
 use Rattle.ds_world.specs.Commits.{commits, commits_next}
 use Rattle.ds_world.specs.Moments.{AtEveryMoment}
 use Rattle.ds_world.specs.History.{Change, Stands}
@@ -112,7 +112,7 @@ place_bound w h q m (Tree x) place stands =
     let same : m ≡ stands.p = cc (place, stands.place) in
     omega (arith, same, stands.to, commits-take first_rules w.log.events (q.event + 1))
 place_bound w h q m (Registered slot generation) place stands = absurd (cc (place, stands.0))
-place_bound w h q m (Damaged sector) place stands = absurd stands
+place_bound w h q m _ place stands = absurd stands
 
 places_before : (w : FirstWorldValue) (h : FirstHolds w) (i : ℕ) (q : Reply) (m : ℕ) → slice_get w.log.replies i ≡ Some q → q.place ≡ Some m
     → m ≤ commits first_rules w.log.events
@@ -141,9 +141,9 @@ longer : (events : List Event) (e : Event) (n : ℕ) → length (events ++ e ∷
 longer events e n le = (omega (arith, length-push events e), omega (arith, length-push events e))
 
 -- an event that takes nothing leaves the count of changes
-not_taken : (w : FirstWorldValue) (h : FirstHolds w) (e : Event) → has_taken e.step ≡ false → change_count (w.log.events ++ e ∷ []) ≡ length h.changes
+not_taken : (w : FirstWorldValue) (h : FirstHolds w) (e : Event) → is_change e.step ≡ false → change_count (w.log.events ++ e ∷ []) ≡ length h.changes
 not_taken w h e none =
-    omega (arith, count_by-push (λ (x : Event). has_taken x.step) w.log.events e, ap (λ (b : Bool). cond {A = ℕ} b 1 0) none, h.taken)
+    omega (arith, count_by-push (λ (x : Event). is_change x.step) w.log.events e, ap (λ (b : Bool). cond {A = ℕ} b 1 0) none, h.taken)
 
 -- a registration
 pub turn-registered : (w : FirstWorldValue) (h : FirstHolds w) → w.host.stage ≡ Rest → slice_get (list_of w.scenario 0) w.position ≡ Some register
@@ -463,7 +463,7 @@ committed w h name verify fresh k filling is free =
       latest = ap (λ (n : ℕ). slice_get (h.trees ++ u ∷ []) n) (length-push h.changes c ∙ sym last) ∙ get-push_last h.trees u;
       changed = omega (arith, length-push h.changes c, h.changed, len);
       counted = omega (arith, h.counted, len);
-      taken = omega (arith, count_by-push (λ (x : Event). has_taken x.step) events e, h.taken, length-push h.changes c);
+      taken = omega (arith, count_by-push (λ (x : Event). is_change x.step) events e, h.taken, length-push h.changes c);
       whole = whole-commit first_rules calls' events (replies ++ r ∷ []) h.changes e c takes (record {
         host = refl;
         directive = refl;

@@ -6,7 +6,7 @@ use Rattle.ds_tree.specs.declared.calls.TreeReply.{TreeReply}
 use Rattle.ds_tree.specs.Nodes.{FileTree}
 use Rattle.ds_tree.specs.Steps.{Does}
 use Rattle.ds_host.specs.declared.answers.HostAnswer.{HostAnswer}
-use Rattle.ds_host.specs.declared.answers.HostAnswer.TheVariants.{Tree, Registered, Damaged}
+use Rattle.ds_host.specs.declared.answers.HostAnswer.TheVariants.{Tree, Registered}
 use Rattle.ds_world.specs.declared.logs.Event.{Event}
 use Rattle.ds_world.specs.declared.logs.Reply.{Reply}
 use Rattle.ds_world.specs.Rules.{Rules}
@@ -61,7 +61,7 @@ module _ (rules : Rules) (g : Geom) (calls : Calls) where
       → IsGiven events r → Stands rules g calls events trees changes r answer → Stands rules g calls (events ++ e ∷ []) trees changes r answer
   Stands-event events e trees changes r (Tree x) given stands = HasPlace-event events e trees changes r x given stands
   Stands-event events e trees changes r (Registered slot generation) given stands = stands
-  Stands-event events e trees changes r (Damaged sector) given stands = stands
+  Stands-event events e trees changes r _ given stands = absurd stands
 
   pub IsLegal-event : (events : List Event) (replies : List Reply) (trees : List FileTree) (changes : List Change) (e : Event)
       → IsLegal rules g calls events replies trees changes → IsLegal rules g calls (events ++ e ∷ []) replies trees changes
@@ -112,7 +112,7 @@ module _ (rules : Rules) (g : Geom) (calls : Calls) where
       → Stands rules g calls events (trees ++ u ∷ []) (changes ++ c ∷ []) r answer
   Stands-change events trees changes c u r (Tree x) other stands = HasPlace-change events trees changes c u r x other stands
   Stands-change events trees changes c u r (Registered slot generation) other stands = stands
-  Stands-change events trees changes c u r (Damaged sector) other stands = stands
+  Stands-change events trees changes c u r _ other stands = absurd stands
 
   AreSteps-change : (trees : List FileTree) (changes : List Change) (c : Change) (t u : FileTree) → slice_get trees (length changes) ≡ Some t
       → Does g t c.call c.reply u → AreSteps g trees changes → AreSteps g (trees ++ u ∷ []) (changes ++ c ∷ [])

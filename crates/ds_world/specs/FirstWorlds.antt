@@ -18,7 +18,7 @@ use Rattle.ds_tree.specs.FirstForm.{register, first_geom, is_create, IsFirstForm
 use Rattle.ds_dir.specs.declared.sub_block.Entry.{Entry}
 use Rattle.ds_dir.specs.declared.sub_block.SubBlock.{SubBlock}
 use Rattle.ds_host.specs.declared.answers.HostAnswer.{HostAnswer}
-use Rattle.ds_host.specs.declared.answers.HostAnswer.TheVariants.{Tree, Registered, Damaged}
+use Rattle.ds_host.specs.declared.answers.HostAnswer.TheVariants.{Tree}
 use Rattle.ds_host.specs.declared.first_host.RootCall.{RootCall}
 use Rattle.ds_host.specs.declared.first_host.RootCall.TheVariants.{Create, Lookup}
 use Rattle.ds_host.specs.declared.first_host.Stage.{Stage}
@@ -208,8 +208,7 @@ IsDue list position due = MatchOption due (length list ≤ position) (λ call. (
 -- the place of an answer of the file tree, and of no other
 abbrev pub place_of : HostAnswer → ℕ → Option ℕ
 place_of (Tree reply) place = Some place
-place_of (Registered slot generation) place = None
-place_of (Damaged sector) place = None
+place_of _ place = None
 
 abbrev pub IsReading : FirstState → Type 0
 IsReading host = (call : RootCall) × (host.stage ≡ Reading call)

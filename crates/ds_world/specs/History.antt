@@ -7,7 +7,7 @@ use Rattle.ds_tree.specs.declared.calls.TreeReply.{TreeReply}
 use Rattle.ds_tree.specs.Nodes.{FileTree, fresh_tree}
 use Rattle.ds_tree.specs.Steps.{Does}
 use Rattle.ds_host.specs.declared.answers.HostAnswer.{HostAnswer}
-use Rattle.ds_host.specs.declared.answers.HostAnswer.TheVariants.{Tree, Registered, Damaged}
+use Rattle.ds_host.specs.declared.answers.HostAnswer.TheVariants.{Tree, Registered}
 use Rattle.ds_world.specs.declared.logs.Event.{Event}
 use Rattle.ds_world.specs.declared.logs.Reply.{Reply}
 use Rattle.ds_world.specs.Rules.{Rules}
@@ -76,12 +76,12 @@ pub record HasPlace (rules : Rules) (g : Geom) (calls : Calls) (events : List Ev
   pub from : (n : ℕ) → IsFirstEvent events r.host r.directive n → commits rules (take n events) ≤ p
   pub to : p ≤ commits rules (take (r.event + 1) events)
 
--- where a reply stands: an answer of the file tree has a place; a registration has none, and answers no tree call; and nothing
--- that was read is ever damaged
+-- where a reply stands: an answer of the file tree has a place; a registration has none, and answers no tree call; and there
+-- are no other answers
 abbrev pub Stands : Rules → Geom → Calls → List Event → List FileTree → List Change → Reply → HostAnswer → Type 0
 Stands rules g calls events trees changes r (Tree x) = HasPlace rules g calls events trees changes r x
 Stands rules g calls events trees changes r (Registered slot generation) = (r.place ≡ None) × (calls r.host r.directive ≡ None)
-Stands rules g calls events trees changes r (Damaged sector) = ⊥
+Stands rules g calls events trees changes r _ = ⊥
 
 -- a reply is given in an event of its call
 pub record IsGiven (events : List Event) (r : Reply) : Type 0 where

@@ -1,10 +1,13 @@
 -- The sectors of a device after the events of a log.
-use Rattle.std.specs.Prelude.{ℕ, Bool, false, List, [], ◌∷◌, count_by, if◌then◌else◌}
+use Rattle.std.specs.Prelude.{ℕ, ◌+◌, ◌==◌, ◌&&◌, ◌||◌, Bool, false, not, List, [], ◌∷◌, count_by, Option, Some, None, if◌then◌else◌}
 use Rattle.ds_base.specs.declared.sectors.Sector.{Sector}
+use Rattle.ds_base.specs.declared.commands.Command.TheVariants.{Swap}
 use Rattle.ds_base.specs.Device.{stored}
+use Rattle.ds_marks.specs.declared.slot.Slot.{Slot}
 use Rattle.ds_world.specs.declared.logs.Step.{Step}
 use Rattle.ds_world.specs.declared.logs.Step.TheVariants.{Local, Sent}
 use Rattle.ds_world.specs.declared.logs.Event.{Event}
+use Rattle.ds_world.specs.Slots.{is_idle, slot_in}
 
 abbrev pub after_step : List Sector → Step → List Sector
 after_step sectors Local = sectors
@@ -15,11 +18,28 @@ abbrev pub store : List Sector → List Event → List Sector
 store sectors [] = sectors
 store sectors (e ∷ events) = store (after_step sectors e.step) events
 
--- whether a step is told to be a Swap that took effect
-abbrev pub has_taken : Step → Bool
-has_taken Local = false
-has_taken (Sent under command response landed took) = took
+-- whether a slot's image has an idle journal
+abbrev pub has_idle : Option Slot → Bool
+has_idle (Some s) = is_idle s.journal
+has_idle None = false
 
--- how many events are told to have changed the device by a Swap
+-- whether a slot's image has a committed transaction
+abbrev pub has_committed : Option Slot → Bool
+has_committed (Some s) = not (is_idle s.journal)
+has_committed None = false
+
+-- whether a Swap at this sector is one of the host's own slot, and from an idle journal to a committed transaction
+abbrev pub commits_at : Option (ℕ × ℕ) → ℕ → Sector → Sector → Bool
+commits_at None at verify fresh = false
+commits_at (Some own) at verify fresh =
+    (at == 2 + own.0) && has_idle (slot_in own.0 verify.bytes) && has_committed (slot_in own.0 fresh.bytes)
+
+-- whether a step is told as a commit: a Swap that took effect, of sector 0, which is all of the first world's device and is
+-- never swapped in a whole volume, or of the slot under which it is sent, from an idle journal to a committed transaction
+abbrev pub is_change : Step → Bool
+is_change (Sent under (Swap at verify fresh) response landed took) = took && (at == 0 || commits_at under at verify fresh)
+is_change _ = false
+
+-- how many events are told as commits
 abbrev pub change_count : List Event → ℕ
-change_count events = count_by (λ e. has_taken e.step) events
+change_count events = count_by (λ e. is_change e.step) events
