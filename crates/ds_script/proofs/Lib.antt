@@ -20,15 +20,11 @@ mod LineSteps
 mod FirstTroubles
 mod Rightly
 mod TextAnswers
-mod Armed
-mod Grown
 mod ItemEffects
 mod StateLaws
 mod LineOrder
 mod TextLaws
 mod ReadAgain
-mod ArmedLines
-mod ArmedHosts
 mod Growth
 mod Within
 mod ScenarioLaws
@@ -39,3 +35,7 @@ mod AnswerLaws
 mod OnlyLaws
 mod NextKept
 mod VolumeTexts
+mod PrintedLines
+mod PrintedWords
+mod PrintedTexts
+mod PrintedParts
