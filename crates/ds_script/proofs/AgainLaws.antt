@@ -171,10 +171,6 @@ name_none (plan ∷ plans) (suc host) e = name_none plans host e
 
 -- The text.
 
-pub within_few : (bytes : List ℕ) → length bytes ≤ most_bytes → within_bytes bytes (text_read bytes) ≡ text_read bytes
-within_few bytes few =
-    ap (λ (b : Bool). if b then Err (TooLarge whats.Bytes) else text_read bytes) (le-ltb most_bytes (length bytes) few)
-
 text_from : (bytes : List ℕ) (volume : List ℕ × Geom) (number : ℕ) (behind : List (List ℕ))
     → first_read 1 (lines_of bytes) ≡ Ok (volume, number, behind)
     → text_read bytes ≡ read_from (scenario_of volume) number behind
@@ -232,10 +228,9 @@ module _ (bytes : List ℕ) (s : Scenario) (h : IsInOrder bytes s) where
   }
 
   -- the scenario is read
-  pub again : within_bytes bytes (text_read bytes) ≡ Ok s
+  pub again : text_read bytes ≡ Ok s
   again =
-      within_few bytes h.spells.few_bytes
-      ∙ (text_from bytes volume first.next first.behind first.reads
+      (text_from bytes volume first.next first.behind first.reads
       ∙ lines_again (scenario_of volume) s first.behind first.next
       (record { hosts = λ i w e. absurd cc; apart = λ i j w e f. absurd cc })
       (continues s (scenario_end s h.spells.is_scenario) first.behind (scenario_of volume) growth))

@@ -24,15 +24,14 @@ mod ItemEffects
 mod StateLaws
 mod LineOrder
 mod TextLaws
-mod ReadAgain
+mod LimitLaws
+mod ScenarioTexts
 mod Growth
 mod Within
 mod ScenarioLaws
 mod ArmedCalls
 mod Continuing
 mod AgainLaws
-mod AnswerLaws
-mod OnlyLaws
 mod NextKept
 mod VolumeTexts
 mod PrintedLines

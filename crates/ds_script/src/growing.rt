@@ -35,15 +35,15 @@ impl Growing {
     pub fn first_word(&mut self, word: &[u8]) -> Result<(), NoMemory>
         ensures { OnOk result (self.new ≡ self.old ++ word.now) }
     {
-        self.bytes.extend_from_slice(word).map_err(|_| NoMemory)
+        self.add(word)
     }
 
     /// One word more of a line.
     pub fn word(&mut self, word: &[u8]) -> Result<(), NoMemory>
         ensures { OnOk result (self.new ≡ self.old ++ (codes " " ++ word.now)) }
     {
-        self.first_word(b" ")?;
-        self.first_word(word)
+        self.add(b" ")?;
+        self.add(word)
     }
 
     /// A number as one word more of a line.
@@ -57,7 +57,13 @@ impl Growing {
     pub fn end_line(&mut self) -> Result<(), NoMemory>
         ensures { OnOk result (self.new ≡ self.old ++ codes "\n") }
     {
-        self.first_word(b"\n")
+        self.add(b"\n")
+    }
+
+    fn add(&mut self, bytes: &[u8]) -> Result<(), NoMemory>
+        ensures { OnOk result (self.new ≡ self.old ++ bytes.now) }
+    {
+        self.bytes.extend_from_slice(bytes).map_err(|_| NoMemory)
     }
 
     pub fn into_bytes(self) -> Vec<u8>
