@@ -4,12 +4,11 @@ use Rattle.std.specs.Prelude.{codes, slice_get}
 use Rattle.std.specs.List.{flat_map, enumerate_from}
 use Rattle.std.proofs.lemmas.Grind.{flat_map-append}
 use Rattle.std.proofs.lemmas.List.Folds.{flat_map-map}
-use Rattle.ds_tree.specs.declared.scenarios.Directive.{Directive}
 use Rattle.ds_tree.specs.declared.scenarios.HostPlan.{HostPlan}
 use Rattle.ds_tree.specs.declared.scenarios.Scenario.{Scenario}
 use Rattle.ds_tree.specs.Lines.{Words}
-use Rattle.ds_tree.specs.Grammar.{names_of, Item, Volume, Host, Does, Step}
-use Rattle.ds_script.specs.Printed.{behind_blanks, name_at, directive_words, line_text, item_text, list_text, directive_items, step_items, printed_items, printed_text}
+use Rattle.ds_tree.specs.Grammar.{names_of, Volume, Host, Does, Step}
+use Rattle.ds_script.specs.Printed.{behind_blanks, name_at, directive_words, line_text, item_text, list_text, directive_items, step_items, printed_text}
 
 -- The words of a line.
 

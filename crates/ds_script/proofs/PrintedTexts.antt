@@ -1,18 +1,17 @@
 -- What is printed of a scenario spells it.
-use Rattle.std.proofs.Common.{◌≡◌, ℕ, zero, suc, ◌+◌, ◌≤◌, ◌<◌, ◌≢◌, inl, inr, Bool, true, false, ◌==◌, List, [], ◌∷◌, ◌++◌, length, get_or, map, Option, Some, None, refl, ap, sym, ◌∙◌, subst, arith, add_assoc, append_assoc, append-nil}
-use Rattle.std.specs.Prelude.{codes, decimal, if◌then◌else◌, slice_get, filter_map, nat_eq}
-use Rattle.std.specs.List.{list_all, flat_map, enumerate_from, AllByRecursion, AllZip, cons_option}
+use Rattle.std.proofs.Common.{◌≡◌, ℕ, zero, suc, ◌+◌, ◌≤◌, ◌<◌, ◌≢◌, false, List, [], ◌∷◌, ◌++◌, length, map, Some, refl, ap, sym, ◌∙◌, subst, arith, append-nil}
+use Rattle.std.specs.Prelude.{decimal, slice_get, filter_map}
+use Rattle.std.specs.List.{flat_map, enumerate_from, AllByRecursion, AllZip}
 use Rattle.std.proofs.lemmas.Bool.{eq-eqb, ne_eqb}
 use Rattle.std.proofs.lemmas.Bool.Decides.{nat_tests}
-use Rattle.std.proofs.lemmas.Grind.{flat_map-append}
 use Rattle.std.proofs.lemmas.List.Elements.{filter_map-append}
 use Rattle.std.proofs.lemmas.List.Folds.{flat_map-map}
 use Rattle.uuid.specs.Text.{parsed, hyphenated_text, lower}
 use Rattle.ds_tree.specs.declared.scenarios.Directive.{Directive}
 use Rattle.ds_tree.specs.declared.scenarios.HostPlan.{HostPlan}
 use Rattle.ds_tree.specs.declared.scenarios.Scenario.{Scenario}
-use Rattle.ds_tree.specs.Lines.{Words, is_word, is_comment, kept_lines}
-use Rattle.ds_tree.specs.Grammar.{most_bytes, most_turns, names_of, IsHostName, IsNameOf, Fits, IsPlan, IsStep, IsScenario, Item, Volume, Host, Does, Step, SpellsItem, IsOfBody, directive_of, step_of, SpellsText, geometry_part}
+use Rattle.ds_tree.specs.Lines.{Words, is_comment, kept_lines}
+use Rattle.ds_tree.specs.Grammar.{most_bytes, names_of, IsHostName, IsNameOf, Fits, IsPlan, IsStep, IsScenario, Item, Volume, Host, Does, Step, SpellsItem, IsOfBody, directive_of, step_of, SpellsText, geometry_part}
 use Rattle.ds_script.specs.Answers.{IsScenarioText}
 use Rattle.ds_script.specs.Printed.{name_at, directive_words, item_words, line_text, directive_items, step_items, printed_items, printed_text, IsPrinted}
 use Rattle.ds_script.proofs.LookupLaws.{AreNames}

@@ -1,15 +1,14 @@
 -- The words of a printed line spell what the line says, and each may stand in a line.
-use Rattle.std.proofs.Common.{◌≡◌, ℕ, zero, suc, ◌+◌, ◌-◌, ◌^◌, ◌≤◌, ◌<◌, inl, inr, Bool, true, false, ◌==◌, ◌&&◌, List, [], ◌∷◌, ◌++◌, length, get_or, Option, Some, None, refl, ap, sym, ◌∙◌, arith}
-use Rattle.std.specs.Prelude.{codes, decimal, if◌then◌else◌, IfSome, slice_get, nat_lt}
+use Rattle.std.proofs.Common.{◌≡◌, ℕ, zero, suc, ◌^◌, ◌≤◌, ◌<◌, Bool, true, false, List, [], ◌∷◌, ◌++◌, length, Option, Some, None, refl, ◌∙◌, arith}
+use Rattle.std.specs.Prelude.{codes, decimal, if◌then◌else◌, IfSome}
 use Rattle.std.specs.List.{list_all}
 use Rattle.std.proofs.lemmas.Bool.{and_from}
 use Rattle.std.proofs.lemmas.Bool.Decides.{nat_tests}
 use Rattle.std.proofs.lemmas.List.Folds.{list_all-append}
-use Rattle.std.proofs.lemmas.Option.{get_or_from_slice_get, slice_get-get_or}
-use Rattle.uuid.specs.Text.{parsed, by_index, hyphenated_text, lower, hyphen, hex_digit, nibble, is_hyphen_place, digit_place}
+use Rattle.std.proofs.lemmas.Option.{slice_get-get_or}
+use Rattle.uuid.specs.Text.{by_index, hyphenated_text, lower, hyphen, hex_digit, nibble, is_hyphen_place, digit_place}
 use Rattle.uuid.proofs.TextLemmas.{by_index_length, nibble_small}
 use Rattle.ds_base.specs.declared.geometry.Geom.{Geom}
-use Rattle.ds_base.specs.declared.geometry.Kind.{Kind}
 use Rattle.ds_base.specs.declared.geometry.Kind.TheVariants.{Fd, Sb, Pb, Fb}
 use Rattle.ds_base.specs.declared.geometry.GeomField.{GeomField}
 use Rattle.ds_base.specs.declared.geometry.GeomField.TheVariants as fields
@@ -26,7 +25,7 @@ use Rattle.ds_tree.specs.declared.variables.Spoken.{Spoken}
 use Rattle.ds_tree.specs.declared.variables.Spoken.TheVariants.{Root, Var}
 use Rattle.ds_tree.specs.Lines.{Words, is_visible, is_word}
 use Rattle.ds_tree.specs.Variables.{IsVariable}
-use Rattle.ds_tree.specs.Grammar.{point_word, landing_word, key_word, as_part, after_part, geometry_part, SpellsTreeCall, SpellsCall, IsNameOf, Spells, FitsKey, FitsWord, FitsTreeCall, FitsCall, GivesKey, IsAwaited, Fits, IsIdWord}
+use Rattle.ds_tree.specs.Grammar.{point_word, landing_word, key_word, as_part, after_part, geometry_part, SpellsTreeCall, SpellsCall, IsNameOf, Spells, FitsKey, FitsWord, FitsTreeCall, FitsCall, GivesKey, IsAwaited, Fits}
 use Rattle.ds_script.specs.Printed.{tree_call_words, call_words, name_at, directive_words}
 use Rattle.ds_script.proofs.WordLaws.{is_word-from, is_word-decimal, is_word-label, label-variable, label_means}
 use Rattle.ds_script.proofs.LookupLaws.{AreNames}

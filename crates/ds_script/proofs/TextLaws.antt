@@ -1,7 +1,7 @@
 -- A whole text: where it is refused, the first line that can't stand is told; where it is read, all of them stand.
-use Rattle.std.proofs.Common.{◌≡◌, ℕ, zero, suc, ◌+◌, ◌^◌, ◌≤◌, ◌<◌, ◌⊎◌, inl, inr, Bool, true, false, not, cond, List, [], ◌∷◌, ◌++◌, length, get_or, take, drop, Result, Ok, Err, Option, Some, None, refl, ap, sym, ◌∙◌, subst, arith, length-drop}
+use Rattle.std.proofs.Common.{◌≡◌, ℕ, ◌+◌, ◌^◌, ◌≤◌, ◌<◌, ◌⊎◌, inl, inr, Bool, true, false, List, [], ◌∷◌, ◌++◌, length, take, drop, Result, Ok, Err, Option, Some, None, refl, ap, sym, ◌∙◌, subst, arith, length-drop}
 use Rattle.std.specs.Prelude.{IfOk, codes, decimal, nat_lt, if◌then◌else◌}
-use Rattle.std.proofs.lemmas.Bool.{ltb-false, cases_eq, cases_lt, cases_order}
+use Rattle.std.proofs.lemmas.Bool.{ltb-false, cases_eq, cases_lt}
 use Rattle.std.proofs.lemmas.List.{take_all, take-append-drop}
 use Rattle.ds_base.specs.declared.geometry.Geom.{Geom}
 use Rattle.ds_base.specs.declared.geometry.GeomField.TheVariants as fields
@@ -21,7 +21,6 @@ use Rattle.ds_script.specs.Faults.{most_sectors, line_fault, limit_passed, geome
 use Rattle.ds_script.specs.Reading.{◌>>=◌, Reads, on_line, volume_line_at, volume_read, first_read, scenario_of, read_from, text_read}
 use Rattle.ds_script.proofs.FirstTroubles.{IsGood}
 use Rattle.ds_script.proofs.Readers.{fault_in}
-use Rattle.ds_script.proofs.Fronts.{words_of-none}
 use Rattle.ds_script.proofs.WordLaws.{number_of-decimal}
 use Rattle.ds_script.proofs.VolumeLaws.{SaysVolume, volume_line_means, volume_line_tells, geom_again, geom_of, sizes_of}
 use Rattle.ds_script.proofs.ItemEffects.{wants_call}
