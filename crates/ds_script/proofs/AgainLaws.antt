@@ -1,5 +1,5 @@
 -- A text that spells a scenario is read as it.
-use Rattle.std.proofs.Common.{◌≡◌, ℕ, zero, suc, ◌+◌, ◌≤◌, Bool, true, false, not, cond, List, [], ◌∷◌, ◌++◌, length, map, Option, Some, None, Ok, Err, refl, ap, sym, ◌∙◌, subst}
+use Rattle.std.proofs.Common.{◌≡◌, ℕ, zero, suc, ◌+◌, ◌≤◌, Bool, true, false, not, cond, List, [], ◌∷◌, ◌++◌, length, map, Option, Some, None, Ok, refl, ap, sym, ◌∙◌, subst}
 use Rattle.std.specs.Prelude.{slice_get, nat_eq, if◌then◌else◌}
 use Rattle.std.specs.List.{AllByRecursion, AllZip, cons_option}
 use Rattle.std.proofs.lemmas.Bool.{eq-eqb, eqb-true, le-ltb, false≢true}
@@ -9,13 +9,11 @@ use Rattle.ds_tree.specs.declared.scenarios.Directive.{Directive}
 use Rattle.ds_tree.specs.declared.scenarios.HostPlan.{HostPlan}
 use Rattle.ds_tree.specs.declared.scenarios.Scenario.{Scenario}
 use Rattle.ds_tree.specs.Lines.{Words, lines_of, words_of, is_comment, kept}
-use Rattle.ds_tree.specs.Grammar.{most_bytes, names_of, Fits, IsStep, IsPlan, IsHostName, IsNameOf, AreArmed, Item, Volume, Host, Does, Step, SpellsItem, IsOfBody, IsScenario}
+use Rattle.ds_tree.specs.Grammar.{names_of, Fits, IsStep, IsPlan, IsHostName, IsNameOf, AreArmed, Item, Volume, Host, Does, Step, SpellsItem, IsOfBody, IsScenario}
 use Rattle.ds_tree.specs.PlainPass.{list_at, directives_of}
-use Rattle.ds_script.specs.declared.faults.ScriptFault.TheVariants.{TooLarge}
-use Rattle.ds_script.specs.declared.faults.What.TheVariants as whats
 use Rattle.ds_script.specs.Faults.{most_sectors}
 use Rattle.ds_script.specs.Answers.{IsInOrder}
-use Rattle.ds_script.specs.Reading.{is_begun, with_item, line_read, read_from, volume_read, first_read, scenario_of, text_read, within_bytes}
+use Rattle.ds_script.specs.Reading.{is_begun, with_item, line_read, read_from, volume_read, first_read, scenario_of, text_read}
 use Rattle.ds_script.proofs.LookupLaws.{AreNames}
 use Rattle.ds_script.proofs.ItemLaws.{item_again}
 use Rattle.ds_script.proofs.VolumeLaws.{SaysVolume, volume_line_again}
@@ -171,10 +169,6 @@ name_none (plan ∷ plans) (suc host) e = name_none plans host e
 
 -- The text.
 
-pub within_few : (bytes : List ℕ) → length bytes ≤ most_bytes → within_bytes bytes (text_read bytes) ≡ text_read bytes
-within_few bytes few =
-    ap (λ (b : Bool). if b then Err (TooLarge whats.Bytes) else text_read bytes) (le-ltb most_bytes (length bytes) few)
-
 text_from : (bytes : List ℕ) (volume : List ℕ × Geom) (number : ℕ) (behind : List (List ℕ))
     → first_read 1 (lines_of bytes) ≡ Ok (volume, number, behind)
     → text_read bytes ≡ read_from (scenario_of volume) number behind
@@ -232,10 +226,9 @@ module _ (bytes : List ℕ) (s : Scenario) (h : IsInOrder bytes s) where
   }
 
   -- the scenario is read
-  pub again : within_bytes bytes (text_read bytes) ≡ Ok s
+  pub again : text_read bytes ≡ Ok s
   again =
-      within_few bytes h.spells.few_bytes
-      ∙ (text_from bytes volume first.next first.behind first.reads
+      (text_from bytes volume first.next first.behind first.reads
       ∙ lines_again (scenario_of volume) s first.behind first.next
       (record { hosts = λ i w e. absurd cc; apart = λ i j w e f. absurd cc })
       (continues s (scenario_end s h.spells.is_scenario) first.behind (scenario_of volume) growth))

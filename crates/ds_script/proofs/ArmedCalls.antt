@@ -13,7 +13,7 @@ use Rattle.ds_script.specs.Reading.{is_begun, with_directive, with_item, is_unar
 use Rattle.ds_script.proofs.WordLaws.{bytes_eq-other, bytes_eq-same, label_means, is_word-label}
 use Rattle.ds_script.proofs.LookupLaws.{AreNames}
 use Rattle.ds_script.proofs.ItemLaws.{SaysItem}
-use Rattle.ds_script.proofs.ItemEffects.{directive_word, directive_begins, directive_run, word_is_call}
+use Rattle.ds_script.proofs.ItemEffects.{BeginsAs, directive_begins}
 use Rattle.ds_script.proofs.StateLaws.{HasHost, has_host, names_more, are_more, names-with_directive}
 use Rattle.ds_script.proofs.LineOrder.{IsTaken, Continues, done, passed, more}
 use Rattle.ds_script.proofs.Growth.{at_same, at_other, at_new, none_more, slice_get_more}
@@ -55,15 +55,17 @@ module _ (names : Words) (are : AreNames names) (ws : Words) (host : ℕ) (d : D
   pub does_run : filter is_run ws ≡ spells.0 ∷ filter is_run spells.1
   does_run = ap (filter is_run) spells.3 ∙ run_first spells.0 spells.1 (label_run spells.0 (are.hosts host spells.0 spells.2))
 
-  second_word : word_at (filter is_run ws) 1 ≡ directive_word d
+  begins : BeginsAs (is_call d) (is_arming d) spells.1
+  begins = directive_begins names spells.1 d spells.4
+
+  second_word : word_at (filter is_run ws) 1 ≡ begins.word
   second_word =
-      let begins = directive_begins names spells.1 d spells.4 in
       ap (λ (ws : Words). word_at ws 1)
-      (does_run ∙ ap (λ (ws : Words). spells.0 ∷ ws) (ap (filter is_run) begins.1 ∙ run_first (directive_word d) begins.0 (directive_run d)))
+      (does_run ∙ ap (λ (ws : Words). spells.0 ∷ ws) (ap (filter is_run) begins.is ∙ run_first begins.word begins.rest begins.run))
 
   -- whether the second of them is the first word of a call
   pub second_is_call : is_first_of call_rows (word_at (filter is_run ws) 1) ≡ is_call d
-  second_is_call = ap (is_first_of call_rows) second_word ∙ word_is_call names spells.1 d spells.4
+  second_is_call = ap (is_first_of call_rows) second_word ∙ begins.of_call
 
   pub begins_own : (w : List ℕ) → IsNameOf names host w → begins_with w (filter is_run ws) ≡ true
   begins_own w h =

@@ -20,197 +20,65 @@ use Rattle.ds_script.proofs.ItemLaws.{SaysItem}
 
 -- The first word of a directive.
 
-abbrev pub tree_call_word : CallOf Spoken → List ℕ
-tree_call_word (calls.Mkdir dir name) = codes "mkdir"
-tree_call_word (calls.Create dir name) = codes "create"
-tree_call_word (calls.Lookup dir name) = codes "lookup"
-tree_call_word (calls.List dir after) = codes "list"
-tree_call_word (calls.Stat key) = codes "stat"
-tree_call_word (calls.Map file page) = codes "map"
-tree_call_word (calls.Resize file blocks) = codes "resize"
-tree_call_word (calls.Remove dir name) = codes "remove"
-tree_call_word (calls.Rmdir dir name) = codes "rmdir"
-tree_call_word (calls.Rename dir name to fresh) = codes "rename"
-tree_call_word (calls.OpenFile file) = codes "open"
-tree_call_word (calls.At file index) = codes "at"
-
-abbrev pub call_word : HostCallOf Spoken → List ℕ
-call_word (host_calls.Tree call) = tree_call_word call
-call_word host_calls.Register = codes "register"
-call_word host_calls.Unregister = codes "unregister"
-call_word host_calls.Beat = codes "beat"
-call_word host_calls.Scan = codes "scan"
-call_word (host_calls.Close file) = codes "close"
-call_word (host_calls.Put file sector fill) = codes "put"
-call_word (host_calls.Get file sector) = codes "get"
-
-abbrev pub directive_word : Directive → List ℕ
-directive_word (directives.Call call bind) = call_word call
-directive_word (directives.Tick n) = codes "tick"
-directive_word (directives.Wait host directive) = codes "wait"
-directive_word (directives.Hold point host directive) = codes "hold"
-directive_word (directives.Crash point) = codes "crash"
-directive_word (directives.Fail point landed) = codes "fail"
-directive_word directives.Die = codes "die"
-directive_word directives.Return = codes "return"
-
 abbrev pub first_of : Words → List ℕ
 first_of ws = word_at ws 0
 
--- the words begin with this one
-abbrev pub Begins : Words → List ℕ → Type 0
-Begins ws w = (rest : Words) × (ws ≡ w ∷ rest)
+-- the words begin with that of a directive, which is that of a call or not, and of one about the next call or not
+pub record BeginsAs (call arming : Bool) (ws : Words) : Type 0 where
+  pub word : List ℕ
+  pub rest : Words
+  pub is : ws ≡ word ∷ rest
+  pub of_call : is_first_of call_rows word ≡ call
+  pub of_arming : is_first_of arming_rows word ≡ arming
+  pub run : is_run word ≡ true
 
-tree_call_begins : (call : CallOf Spoken) (ws : Words) → SpellsTreeCall ws call → Begins ws (tree_call_word call)
-tree_call_begins (calls.Mkdir dir name) ws h = (_, h)
-tree_call_begins (calls.Create dir name) ws h = (_, h)
-tree_call_begins (calls.Lookup dir name) ws h = (_, h)
-tree_call_begins (calls.List dir after) ws h = (_, h)
-tree_call_begins (calls.Stat key) ws h = (_, h)
-tree_call_begins (calls.Map file page) ws h = (_, h)
-tree_call_begins (calls.Resize file blocks) ws h = (_, h)
-tree_call_begins (calls.Remove dir name) ws h = (_, h)
-tree_call_begins (calls.Rmdir dir name) ws h = (_, h)
-tree_call_begins (calls.Rename dir name to fresh) ws h = (_, h)
-tree_call_begins (calls.OpenFile file) ws h = (_, h)
+begins_as : (call arming : Bool) (word : List ℕ) (rest ws : Words) → ws ≡ word ∷ rest → is_first_of call_rows word ≡ call
+    → is_first_of arming_rows word ≡ arming → is_run word ≡ true → BeginsAs call arming ws
+begins_as call arming word rest ws is is_call_word is_arming_word is_run_word =
+    record { word = word; rest = rest; is = is; of_call = is_call_word; of_arming = is_arming_word; run = is_run_word }
+
+tree_call_begins : (call : CallOf Spoken) (ws : Words) → SpellsTreeCall ws call → BeginsAs true false ws
+tree_call_begins (calls.Mkdir dir name) ws h = begins_as _ _ _ _ ws h refl refl refl
+tree_call_begins (calls.Create dir name) ws h = begins_as _ _ _ _ ws h refl refl refl
+tree_call_begins (calls.Lookup dir name) ws h = begins_as _ _ _ _ ws h refl refl refl
+tree_call_begins (calls.List dir after) ws h = begins_as _ _ _ _ ws h refl refl refl
+tree_call_begins (calls.Stat key) ws h = begins_as _ _ _ _ ws h refl refl refl
+tree_call_begins (calls.Map file page) ws h = begins_as _ _ _ _ ws h refl refl refl
+tree_call_begins (calls.Resize file blocks) ws h = begins_as _ _ _ _ ws h refl refl refl
+tree_call_begins (calls.Remove dir name) ws h = begins_as _ _ _ _ ws h refl refl refl
+tree_call_begins (calls.Rmdir dir name) ws h = begins_as _ _ _ _ ws h refl refl refl
+tree_call_begins (calls.Rename dir name to fresh) ws h = begins_as _ _ _ _ ws h refl refl refl
+tree_call_begins (calls.OpenFile file) ws h = begins_as _ _ _ _ ws h refl refl refl
 tree_call_begins (calls.At file index) ws h = absurd h
 
-call_begins : (call : HostCallOf Spoken) (ws : Words) → SpellsCall ws call → Begins ws (call_word call)
+call_begins : (call : HostCallOf Spoken) (ws : Words) → SpellsCall ws call → BeginsAs true false ws
 call_begins (host_calls.Tree call) ws h = tree_call_begins call ws h
-call_begins host_calls.Register ws h = (_, h)
-call_begins host_calls.Unregister ws h = (_, h)
-call_begins host_calls.Beat ws h = (_, h)
-call_begins host_calls.Scan ws h = (_, h)
-call_begins (host_calls.Close file) ws h = (_, h)
-call_begins (host_calls.Put file sector fill) ws h = (_, h)
-call_begins (host_calls.Get file sector) ws h = (_, h)
+call_begins host_calls.Register ws h = begins_as _ _ _ _ ws h refl refl refl
+call_begins host_calls.Unregister ws h = begins_as _ _ _ _ ws h refl refl refl
+call_begins host_calls.Beat ws h = begins_as _ _ _ _ ws h refl refl refl
+call_begins host_calls.Scan ws h = begins_as _ _ _ _ ws h refl refl refl
+call_begins (host_calls.Close file) ws h = begins_as _ _ _ _ ws h refl refl refl
+call_begins (host_calls.Put file sector fill) ws h = begins_as _ _ _ _ ws h refl refl refl
+call_begins (host_calls.Get file sector) ws h = begins_as _ _ _ _ ws h refl refl refl
 
-pub directive_begins : (names ws : Words) (d : Directive) → Spells names ws d → Begins ws (directive_word d)
+pub directive_begins : (names ws : Words) (d : Directive) → Spells names ws d → BeginsAs (is_call d) (is_arming d) ws
 directive_begins names ws (directives.Call call bind) h =
     let front = call_begins call h.0 h.1 in
-    (front.0 ++ as_part bind, h.2 ∙ ap (λ (f : Words). f ++ as_part bind) front.1)
-directive_begins names ws (directives.Tick n) h = (_, h)
-directive_begins names ws (directives.Wait host directive) h = (_, h.2)
-directive_begins names ws (directives.Hold point host directive) h = (_, h.2)
-directive_begins names ws (directives.Crash point) h = (_, h)
-directive_begins names ws (directives.Fail point landed) h = (_, h)
-directive_begins names ws directives.Die h = (_, h)
-directive_begins names ws directives.Return h = (_, h)
+    begins_as true false front.word (front.rest ++ as_part bind) ws (h.2 ∙ ap (λ (f : Words). f ++ as_part bind) front.is)
+    front.of_call front.of_arming front.run
+directive_begins names ws (directives.Tick n) h = begins_as _ _ _ _ ws h refl refl refl
+directive_begins names ws (directives.Wait host directive) h = begins_as _ _ _ _ ws h.2 refl refl refl
+directive_begins names ws (directives.Hold point host directive) h = begins_as _ _ _ _ ws h.2 refl refl refl
+directive_begins names ws (directives.Crash point) h = begins_as _ _ _ _ ws h refl refl refl
+directive_begins names ws (directives.Fail point landed) h = begins_as _ _ _ _ ws h refl refl refl
+directive_begins names ws directives.Die h = begins_as _ _ _ _ ws h refl refl refl
+directive_begins names ws directives.Return h = begins_as _ _ _ _ ws h refl refl refl
 
-tree_call_is_call : (call : CallOf Spoken) (ws : Words) → SpellsTreeCall ws call → is_first_of call_rows (tree_call_word call) ≡ true
-tree_call_is_call (calls.Mkdir dir name) ws h = refl
-tree_call_is_call (calls.Create dir name) ws h = refl
-tree_call_is_call (calls.Lookup dir name) ws h = refl
-tree_call_is_call (calls.List dir after) ws h = refl
-tree_call_is_call (calls.Stat key) ws h = refl
-tree_call_is_call (calls.Map file page) ws h = refl
-tree_call_is_call (calls.Resize file blocks) ws h = refl
-tree_call_is_call (calls.Remove dir name) ws h = refl
-tree_call_is_call (calls.Rmdir dir name) ws h = refl
-tree_call_is_call (calls.Rename dir name to fresh) ws h = refl
-tree_call_is_call (calls.OpenFile file) ws h = refl
-tree_call_is_call (calls.At file index) ws h = absurd h
-
-call_is_call : (call : HostCallOf Spoken) (ws : Words) → SpellsCall ws call → is_first_of call_rows (call_word call) ≡ true
-call_is_call (host_calls.Tree call) ws h = tree_call_is_call call ws h
-call_is_call host_calls.Register ws h = refl
-call_is_call host_calls.Unregister ws h = refl
-call_is_call host_calls.Beat ws h = refl
-call_is_call host_calls.Scan ws h = refl
-call_is_call (host_calls.Close file) ws h = refl
-call_is_call (host_calls.Put file sector fill) ws h = refl
-call_is_call (host_calls.Get file sector) ws h = refl
-
-pub word_is_call : (names ws : Words) (d : Directive) → Spells names ws d → is_first_of call_rows (directive_word d) ≡ is_call d
-word_is_call names ws (directives.Call call bind) h = call_is_call call h.0 h.1
-word_is_call names ws (directives.Tick n) h = refl
-word_is_call names ws (directives.Wait host directive) h = refl
-word_is_call names ws (directives.Hold point host directive) h = refl
-word_is_call names ws (directives.Crash point) h = refl
-word_is_call names ws (directives.Fail point landed) h = refl
-word_is_call names ws directives.Die h = refl
-word_is_call names ws directives.Return h = refl
-
-tree_call_not_arming : (call : CallOf Spoken) → is_first_of arming_rows (tree_call_word call) ≡ false
-tree_call_not_arming (calls.Mkdir dir name) = refl
-tree_call_not_arming (calls.Create dir name) = refl
-tree_call_not_arming (calls.Lookup dir name) = refl
-tree_call_not_arming (calls.List dir after) = refl
-tree_call_not_arming (calls.Stat key) = refl
-tree_call_not_arming (calls.Map file page) = refl
-tree_call_not_arming (calls.Resize file blocks) = refl
-tree_call_not_arming (calls.Remove dir name) = refl
-tree_call_not_arming (calls.Rmdir dir name) = refl
-tree_call_not_arming (calls.Rename dir name to fresh) = refl
-tree_call_not_arming (calls.OpenFile file) = refl
-tree_call_not_arming (calls.At file index) = refl
-
-call_not_arming : (call : HostCallOf Spoken) → is_first_of arming_rows (call_word call) ≡ false
-call_not_arming (host_calls.Tree call) = tree_call_not_arming call
-call_not_arming host_calls.Register = refl
-call_not_arming host_calls.Unregister = refl
-call_not_arming host_calls.Beat = refl
-call_not_arming host_calls.Scan = refl
-call_not_arming (host_calls.Close file) = refl
-call_not_arming (host_calls.Put file sector fill) = refl
-call_not_arming (host_calls.Get file sector) = refl
-
-word_is_arming : (d : Directive) → is_first_of arming_rows (directive_word d) ≡ is_arming d
-word_is_arming (directives.Call call bind) = call_not_arming call
-word_is_arming (directives.Tick n) = refl
-word_is_arming (directives.Wait host directive) = refl
-word_is_arming (directives.Hold point host directive) = refl
-word_is_arming (directives.Crash point) = refl
-word_is_arming (directives.Fail point landed) = refl
-word_is_arming directives.Die = refl
-word_is_arming directives.Return = refl
-
--- whether the first word of a directive is that of a call, or of one about the next call
-pub first_is_call : (names ws : Words) (d : Directive) → Spells names ws d → is_first_of call_rows (first_of ws) ≡ is_call d
-first_is_call names ws d h =
-    let begins = directive_begins names ws d h in
-    ap (λ (ws : Words). is_first_of call_rows (first_of ws)) begins.1 ∙ word_is_call names ws d h
-
+-- whether the first word of a directive is that of one about the next call
 pub first_is_arming : (names ws : Words) (d : Directive) → Spells names ws d → is_first_of arming_rows (first_of ws) ≡ is_arming d
 first_is_arming names ws d h =
     let begins = directive_begins names ws d h in
-    ap (λ (ws : Words). is_first_of arming_rows (first_of ws)) begins.1 ∙ word_is_arming d
-
--- The words of directives are runs.
-
-tree_call_run : (call : CallOf Spoken) → is_run (tree_call_word call) ≡ true
-tree_call_run (calls.Mkdir dir name) = refl
-tree_call_run (calls.Create dir name) = refl
-tree_call_run (calls.Lookup dir name) = refl
-tree_call_run (calls.List dir after) = refl
-tree_call_run (calls.Stat key) = refl
-tree_call_run (calls.Map file page) = refl
-tree_call_run (calls.Resize file blocks) = refl
-tree_call_run (calls.Remove dir name) = refl
-tree_call_run (calls.Rmdir dir name) = refl
-tree_call_run (calls.Rename dir name to fresh) = refl
-tree_call_run (calls.OpenFile file) = refl
-tree_call_run (calls.At file index) = refl
-
-call_run : (call : HostCallOf Spoken) → is_run (call_word call) ≡ true
-call_run (host_calls.Tree call) = tree_call_run call
-call_run host_calls.Register = refl
-call_run host_calls.Unregister = refl
-call_run host_calls.Beat = refl
-call_run host_calls.Scan = refl
-call_run (host_calls.Close file) = refl
-call_run (host_calls.Put file sector fill) = refl
-call_run (host_calls.Get file sector) = refl
-
-pub directive_run : (d : Directive) → is_run (directive_word d) ≡ true
-directive_run (directives.Call call bind) = call_run call
-directive_run (directives.Tick n) = refl
-directive_run (directives.Wait host directive) = refl
-directive_run (directives.Hold point host directive) = refl
-directive_run (directives.Crash point) = refl
-directive_run (directives.Fail point landed) = refl
-directive_run directives.Die = refl
-directive_run directives.Return = refl
+    ap (λ (ws : Words). is_first_of arming_rows (first_of ws)) begins.is ∙ begins.of_arming
 
 -- The measures of an item.
 

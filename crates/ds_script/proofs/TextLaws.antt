@@ -1,7 +1,7 @@
 -- A whole text: where it is refused, the first line that can't stand is told; where it is read, all of them stand.
-use Rattle.std.proofs.Common.{◌≡◌, ℕ, zero, suc, ◌+◌, ◌^◌, ◌≤◌, ◌<◌, ◌⊎◌, inl, inr, Bool, true, false, not, cond, List, [], ◌∷◌, ◌++◌, length, get_or, take, drop, Result, Ok, Err, Option, Some, None, refl, ap, sym, ◌∙◌, subst, arith, length-drop}
+use Rattle.std.proofs.Common.{◌≡◌, ℕ, ◌+◌, ◌^◌, ◌≤◌, ◌<◌, ◌⊎◌, inl, inr, Bool, true, false, List, [], ◌∷◌, ◌++◌, length, take, drop, Result, Ok, Err, Option, Some, None, refl, ap, sym, ◌∙◌, subst, arith, length-drop}
 use Rattle.std.specs.Prelude.{IfOk, codes, decimal, nat_lt, if◌then◌else◌}
-use Rattle.std.proofs.lemmas.Bool.{ltb-false, cases_eq, cases_lt, cases_order}
+use Rattle.std.proofs.lemmas.Bool.{ltb-false, cases_eq, cases_lt}
 use Rattle.std.proofs.lemmas.List.{take_all, take-append-drop}
 use Rattle.ds_base.specs.declared.geometry.Geom.{Geom}
 use Rattle.ds_base.specs.declared.geometry.GeomField.TheVariants as fields
@@ -19,8 +19,8 @@ use Rattle.ds_script.specs.declared.faults.What.{What}
 use Rattle.ds_script.specs.declared.faults.What.TheVariants as whats
 use Rattle.ds_script.specs.Faults.{most_sectors, line_fault, limit_passed, geometry_of, Trouble, Bad, Large, Judge, in_scenario, trouble_at, IsFirst, IsFirstBad, PassesLimit}
 use Rattle.ds_script.specs.Reading.{◌>>=◌, Reads, on_line, volume_line_at, volume_read, first_read, scenario_of, read_from, text_read}
+use Rattle.ds_script.proofs.FirstTroubles.{IsGood}
 use Rattle.ds_script.proofs.Readers.{fault_in}
-use Rattle.ds_script.proofs.Fronts.{words_of-none}
 use Rattle.ds_script.proofs.WordLaws.{number_of-decimal}
 use Rattle.ds_script.proofs.VolumeLaws.{SaysVolume, volume_line_means, volume_line_tells, geom_again, geom_of, sizes_of}
 use Rattle.ds_script.proofs.ItemEffects.{wants_call}
@@ -270,71 +270,21 @@ fault_told lines f (inl h) =
     first_told in_scenario lines h.k h.why f (record { stands_not = h.stands_not; first = λ j less. h.first j (omega arith) less }) h.told
 fault_told lines f (inr lacks) = lacks_told in_scenario lines f lacks
 
--- There is one such fault.
+-- A text that is read has no fault.
 
--- the same, in one form for all faults
-abbrev Tells : List (List ℕ) → ScriptFault → Type 0
-Tells lines f = ((k : ℕ) × (why : Trouble) × IsFirst in_scenario lines k why × (f ≡ refusal (k + 1) why)) ⊎ Lacks lines f
-
-tells : (lines : List (List ℕ)) (f : ScriptFault) → IsFaultOf lines f → Tells lines f
-tells lines (BadLine number why) (inl h) = inl (h.0, Bad why, h.2, ap (λ (n : ℕ). BadLine n why) h.1)
-tells lines (BadLine number why) (inr h) =
-    inr (record { none = h.none; told = ap (λ (n : ℕ). BadLine n why) h.at_end ∙ ap (λ (w : LineFault). BadLine (length lines + 1) w) h.volume })
-tells lines (TooLarge what) h = inl (h.0, Large what, h.1, refl)
-tells lines (Stuck host directive) h = absurd h
-tells lines NoMemory h = absurd h
-
-firsts_same : (lines : List (List ℕ)) (k j : ℕ) (t u : Trouble) → IsFirst in_scenario lines k t → IsFirst in_scenario lines j u
-    → (k ≡ j) × (t ≡ u)
-firsts_same lines k j t u first other = elim (cases_order k j) [
-  | inl same ↦
-      let here : trouble_at in_scenario lines j ≡ Some t = ap (trouble_at in_scenario lines) (sym same) ∙ first.stands_not in
-      let both : Some t ≡ Some u = sym here ∙ other.stands_not in
-      (same, cc)
-  | inr (inl less) ↦ let none : None ≡ Some t = sym (other.first k less) ∙ first.stands_not in absurd cc
-  | inr (inr more) ↦ let none : None ≡ Some u = sym (first.first j more) ∙ other.stands_not in absurd cc
-]
-
-none_kept : (lines : List (List ℕ)) → kept lines ≡ [] → (k : ℕ) → is_comment (words_of (get_or lines k [])) ≡ true
-none_kept [] none k = ap is_comment (words_of-none [] refl)
-none_kept (line ∷ lines) none k = at_first (is_comment (words_of line)) refl none k (none_kept lines)
-  where
-    at_first : (b : Bool) → is_comment (words_of line) ≡ b → cond (not b) (words_of line ∷ kept lines) (kept lines) ≡ [] → (k : ℕ)
-        → (kept lines ≡ [] → (k : ℕ) → is_comment (words_of (get_or lines k [])) ≡ true)
-        → is_comment (words_of (get_or (line ∷ lines) k [])) ≡ true
-    at_first false is none k rest = absurd cc
-    at_first true is none zero rest = is
-    at_first true is none (suc k) rest = rest none k
-
-lacks_stands : (lines : List (List ℕ)) → kept lines ≡ [] → (k : ℕ) (t : Trouble) → IsFirst in_scenario lines k t → ⊥
-lacks_stands lines none k t first =
-    let stands : None ≡ Some t = sym (passed_stands in_scenario lines k (none_kept lines none k)) ∙ first.stands_not in absurd cc
-
-tells_one : (lines : List (List ℕ)) (f g : ScriptFault) → Tells lines f → Tells lines g → f ≡ g
-tells_one lines f g (inl a) (inl b) =
-    let same = firsts_same lines a.0 b.0 a.1 b.1 a.2 b.2 in
-    a.3 ∙ (ap (λ (k : ℕ). refusal (k + 1) a.1) same.0 ∙ (ap (refusal (b.0 + 1)) same.1 ∙ sym b.3))
-tells_one lines f g (inl a) (inr b) = absurd (lacks_stands lines b.none a.0 a.1 a.2)
-tells_one lines f g (inr a) (inl b) = absurd (lacks_stands lines a.none b.0 b.1 b.2)
-tells_one lines f g (inr a) (inr b) = a.told ∙ sym b.told
-
-pub one_fault : (lines : List (List ℕ)) (f g : ScriptFault) → IsFaultOf lines f → IsFaultOf lines g → f ≡ g
-one_fault lines f g a b = tells_one lines f g (tells lines f a) (tells lines g b)
-
--- a text that is read has no fault
 all_stand : (lines : List (List ℕ)) (s : Scenario) (h : TextStands lines s) (k : ℕ) → trouble_at in_scenario lines k ≡ None
 all_stand lines s h k = elim (cases_lt k h.first.m) [
   | inl early ↦ h.first.stand k (omega arith) early
   | inr late ↦ h.all.stand k late
 ]
 
-pub none_told : (lines : List (List ℕ)) (s : Scenario) → TextStands lines s → (f : ScriptFault) → IsFaultOf lines f → ⊥
-none_told lines s h f told = elim (tells lines f told) [
-  | inl a ↦ let none : None ≡ Some a.1 = sym (all_stand lines s h a.0) ∙ a.2.stands_not in absurd cc
-  | inr lacks ↦
-      let front : kept (take h.first.m lines) ++ kept (drop h.first.m lines) ≡ [] =
-      sym (kept-append (take h.first.m lines) (drop h.first.m lines)) ∙ (ap kept (take-append-drop h.first.m lines) ∙ lacks.none) in
-      let some : words_of h.first.line ∷ ([] ++ kept (drop h.first.m lines)) ≡ [] =
-      ap (λ (ks : List Words). ks ++ kept (drop h.first.m lines)) (sym h.first.kept_so) ∙ front in
-      absurd cc
-]
+some_kept : (lines : List (List ℕ)) (s : Scenario) → TextStands lines s → kept lines ≡ [] → ⊥
+some_kept lines s h none =
+    let front : kept (take h.first.m lines) ++ kept (drop h.first.m lines) ≡ [] =
+    sym (kept-append (take h.first.m lines) (drop h.first.m lines)) ∙ (ap kept (take-append-drop h.first.m lines) ∙ none) in
+    let some : words_of h.first.line ∷ ([] ++ kept (drop h.first.m lines)) ≡ [] =
+    ap (λ (ks : List Words). ks ++ kept (drop h.first.m lines)) (sym h.first.kept_so) ∙ front in
+    absurd cc
+
+pub good_text : (lines : List (List ℕ)) (s : Scenario) → TextStands lines s → IsGood in_scenario lines
+good_text lines s h = record { stands = all_stand lines s h; some = some_kept lines s h }

@@ -14,7 +14,7 @@ use Rattle.ds_script.specs.declared.faults.What.TheVariants as whats
 use Rattle.ds_script.specs.Answers.{IsVolumeText, IsVolumeAnswer}
 use Rattle.ds_script.specs.Faults.{most_sectors, Trouble, Bad, Large, in_volume, trouble_at, IsFirst, PassesLimit}
 use Rattle.ds_script.specs.Reading.{◌>>=◌, volume_read, first_read, none_read, only_volume_read, volume_text_read, within_bytes}
-use Rattle.ds_script.proofs.AnswerLaws.{trouble_not_bytes}
+use Rattle.ds_script.proofs.LimitLaws.{trouble_not_bytes}
 use Rattle.ds_script.proofs.FirstTroubles.{IsGood}
 use Rattle.ds_script.proofs.LineOrder.{refusal, passed_stands, IsAt, line_at, trouble_here}
 use Rattle.ds_script.proofs.LineSteps.{first_read-none, first_read-passed, first_read-ok, first_read-err, none_read-none, none_read-passed, none_read-kept}

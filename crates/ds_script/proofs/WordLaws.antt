@@ -25,7 +25,7 @@ pub record IsNumberWord (low high : ℕ) (w : List ℕ) (n : ℕ) : Type 0 where
   pub least : low ≤ n
   pub most : n ≤ high
 
-all_like : (p q : ℕ → Bool) → ((b : ℕ) → p b ≡ true → q b ≡ true) → (w : List ℕ) → list_all p w ≡ true → list_all q w ≡ true
+pub all_like : (p q : ℕ → Bool) → ((b : ℕ) → p b ≡ true → q b ≡ true) → (w : List ℕ) → list_all p w ≡ true → list_all q w ≡ true
 all_like p q like [] all = refl
 all_like p q like (b ∷ bs) all =
     let parts = and_parts (p b) (list_all p bs) all in

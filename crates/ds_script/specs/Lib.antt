@@ -5,6 +5,7 @@ pub mod Faults
 pub mod FaultTexts
 pub mod Fronts
 pub mod Passing
+pub mod Printed
 pub mod Reading
 pub mod Results
 pub mod Runs

@@ -1,11 +1,14 @@
-//! The language of scenarios: how their texts are read, and whether their directives can all pass.
+//! The language of scenarios: how their texts are read and printed, and whether their directives can all pass.
 #![tactic(auto)]
 
 mod arming;
 mod directives;
 mod drafts;
+#[cfg(test)]
+mod fault_tests;
 mod faults;
 mod fields;
+mod growing;
 mod items;
 mod limits;
 mod lines;
@@ -13,10 +16,15 @@ mod numbers;
 mod passing;
 #[cfg(test)]
 mod passing_tests;
+mod printing;
+#[cfg(test)]
+mod printing_tests;
 mod reading;
 #[cfg(test)]
 mod reading_tests;
+mod spelling;
 
 pub use faults::{LineFault, ScriptFault, What};
 pub use passing::{Pass, plain_pass};
+pub use printing::print;
 pub use reading::{read, read_volume};

@@ -1,6 +1,5 @@
 -- What is read of a text is its answer, and the only one.
-use Rattle.ds_script.proofs.AnswerLaws.{is_answer}
-use Rattle.ds_script.proofs.OnlyLaws.{only_answer}
+use Rattle.ds_script.proofs.ScenarioTexts.{is_answer, only_answer}
 use Rattle.ds_script.proofs.reading.read.Goals as goal
 
 pub returns-clause-answer : goal.returns-clause-answer
