@@ -1,2 +1,4 @@
+pub mod Beginning
 pub mod Changed
+pub mod Entering
 pub mod Puts
