@@ -1,5 +1,6 @@
 pub mod Bits
 pub mod Entered
+pub mod EnteredTrees
 pub mod FreeItems
 pub mod Frames
 pub mod Names
