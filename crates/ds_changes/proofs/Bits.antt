@@ -83,6 +83,13 @@ bits-get g look kind maps c it old e reads all there small =
     flat-get used_bits (per_cluster g kind) maps c it None e (maps-wide g look kind maps reads all) (part_within maps c old there) small
     ∙ ap (λ r. get_or (used_bits r) it e) there
 
+-- a bit that a cluster's bitmap has is that of an item of the cluster
+pub bit-within : (g : Geom) (look : Look) (kind : Kind) (maps : List (Option Bitmap)) (c it : ℕ) (b : Bitmap) (v : Bool)
+    → IsReading (clusters_of g kind) (SpellsBits g look kind) maps → part_at maps c ≡ Some b → slice_get b.used it ≡ Some v → it < per_cluster g kind
+bit-within g look kind maps c it b v reads there at =
+    let bits = ((reads.each c (omega (arith, part_within maps c b there, reads.len)) b).0 there).0 in
+    omega (arith, slice_get_within b.used it v at, bits.count)
+
 -- where all parts are spelled, and another one is put in the place of one, all are
 pub all-put : {V : Type 0} (xs : List (Option V)) (at : ℕ) (v : V) → AllSpelled xs → AllSpelled (slice_set xs at (Some v))
 all-put xs at v all i within =

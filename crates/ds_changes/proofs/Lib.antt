@@ -1,8 +1,12 @@
 pub mod Bits
 pub mod Entered
 pub mod EnteredTrees
+pub mod Filled
 pub mod FreeItems
 pub mod Frames
+pub mod Grown
+pub mod Granting
+pub mod Listed
 pub mod Names
 pub mod NewBodies
 pub mod Puts

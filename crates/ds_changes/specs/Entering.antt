@@ -1,11 +1,15 @@
 -- What a planner has found out of a directory that is to have one more entry.
 use Rattle.std.specs.Prelude.{◌≡◌, ℕ, ◌+◌, ◌*◌, List, [], ◌∷◌, length, slice_get, slice_set, Some, None}
 use Rattle.std.specs.FinMap as maps
+use Rattle.ds_base.specs.declared.names.Key.{Key}
+use Rattle.ds_base.specs.declared.names.NodeKind.{NodeKind}
 use Rattle.ds_base.specs.declared.names.NodeKind.TheVariants as kinds
 use Rattle.ds_dir.specs.declared.sub_block.Entry.{Entry}
 use Rattle.ds_dir.specs.declared.sub_block.SubBlock.{SubBlock}
 use Rattle.ds_fd.specs.Body.{IsBody}
 use Rattle.ds_fd.specs.declared.body.Body.{Body}
+use Rattle.ds_tree.specs.declared.calls.CallOf.{CallOf}
+use Rattle.ds_tree.specs.declared.calls.CallOf.TheVariants.{Mkdir, Create}
 use Rattle.ds_image.specs.Objects.{subs_by, used_rooms, entries_of}
 use Rattle.ds_image.specs.Parts.{Parts, part_at}
 
@@ -39,3 +43,8 @@ pub record AddsRooms (p : Parts) (dir : Body) (n : ℕ) (e : Entry) (grown : Bod
   pub count : grown.count ≡ dir.count + 1
   pub addresses : grown.addresses ≡ slice_set dir.addresses dir.count n
   pub alone : after.rooms ≡ Some e ∷ None ∷ None ∷ None ∷ []
+
+-- the call that makes an object of this kind
+abbrev pub make_call : NodeKind → Key → List ℕ → CallOf Key
+make_call kinds.Dir dir name = Mkdir dir name
+make_call kinds.File dir name = Create dir name
