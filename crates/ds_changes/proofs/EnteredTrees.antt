@@ -51,7 +51,7 @@ module _ (p q : Parts) (d o : ℕ) (dir dir' new : Body) (e : Entry) (en : Enter
   abbrev pub entered-tree : FileTree
   entered-tree = with_object (with_node t d dir-node) o new-object
 
-  put-entries : entries_of q (subs_in dir') ≡ maps.insert entries e.name o
+  pub put-entries : entries_of q (subs_in dir') ≡ maps.insert entries e.name o
   put-entries =
       by_name-put e (used_rooms p (subs_in dir)) (used_rooms q (subs_in dir')) en.put in-bodies.lacks.absent
       ∙ ap (maps.insert entries e.name) in-bodies.begins.named_object

@@ -25,7 +25,7 @@ use Rattle.ds_tree.specs.declared.calls.TreeReply.TheVariants.{Made}
 use Rattle.ds_changes.specs.Entering.{make_call}
 
 -- the node of a key whose life is the object's
-key-node : (t : FileTree) (key : Key) (birth : ℕ) → birth_at t key.object ≡ birth → birth ≡ key.birth → node_of_key t key ≡ node_at t key.object
+pub key-node : (t : FileTree) (key : Key) (birth : ℕ) → birth_at t key.object ≡ birth → birth ≡ key.birth → node_of_key t key ≡ node_at t key.object
 key-node t key birth at same =
     ap (λ b. if b then node_at t key.object else None) (eq-eqb (birth_at t key.object) key.birth (at ∙ same))
 

@@ -7,7 +7,10 @@ pub mod Frames
 pub mod Grown
 pub mod Granting
 pub mod Listed
+pub mod Makes
 pub mod Names
 pub mod NewBodies
 pub mod Puts
+pub mod StandsFilled
+pub mod StandsGrown
 pub mod Rooms
