@@ -11,6 +11,7 @@ pub mod Makes
 pub mod Names
 pub mod NewBodies
 pub mod Puts
+pub mod Spelling
 pub mod StandsFilled
 pub mod StandsGrown
 pub mod Rooms
