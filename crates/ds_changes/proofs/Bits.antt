@@ -5,7 +5,7 @@ use Rattle.std.specs.List.{flat_map, sum_by}
 use Rattle.std.proofs.lemmas.Bool.{cases_eq}
 use Rattle.std.proofs.lemmas.List.{set-append_left, set-append_right, get_or-set_same, get_or-set_other, get_or_append_left, get_or-append_right, get_or_past}
 use Rattle.std.proofs.lemmas.List.Sums.{sum_by-cons, sum_by-append}
-use Rattle.std.proofs.lemmas.Option.{slice_get_within, get_or_from_slice_get}
+use Rattle.std.proofs.lemmas.Option.{slice_get_within, slice_get-get_or, get_or_from_slice_get}
 use Rattle.ds_base.specs.Geometry.{IsGeom, clusters_of, per_cluster, items_of}
 use Rattle.ds_base.specs.declared.geometry.Geom.{Geom}
 use Rattle.ds_base.specs.declared.geometry.Kind.{Kind}
@@ -14,6 +14,7 @@ use Rattle.ds_image.specs.Looks.{Look}
 use Rattle.ds_image.specs.Owns.{bit}
 use Rattle.ds_image.specs.Parts.{part_at, AllSpelled, used_bits, bits_in}
 use Rattle.ds_image.specs.Readings.{SpellsBits, IsReading}
+use Rattle.ds_image.proofs.Listed.{bits_length}
 use Rattle.ds_image.proofs.OwnedCounts.{marked_count}
 use Rattle.ds_image.proofs.Sizes.{part_within}
 
@@ -89,6 +90,19 @@ pub bit-within : (g : Geom) (look : Look) (kind : Kind) (maps : List (Option Bit
 bit-within g look kind maps c it b v reads there at =
     let bits = ((reads.each c (omega (arith, part_within maps c b there, reads.len)) b).0 there).0 in
     omega (arith, slice_get_within b.used it v at, bits.count)
+
+-- a bit of a cluster as one of the kind
+pub bits-at : (g : Geom) (look : Look) (kind : Kind) (maps : List (Option Bitmap)) (c it : ℕ) (b : Bitmap) (v : Bool)
+    → IsReading (clusters_of g kind) (SpellsBits g look kind) maps → AllSpelled maps → part_at maps c ≡ Some b → slice_get b.used it ≡ Some v
+    → slice_get (bits_in maps) (c * per_cluster g kind + it) ≡ Some v
+bits-at g look kind maps c it b v reads all there at =
+    let k : ℕ = c * per_cluster g kind + it in
+    let small = bit-within g look kind maps c it b v reads there at in
+    let bits = ((reads.each c (omega (arith, part_within maps c b there, reads.len)) b).0 there).0 in
+    let clusters : c + 1 ≤ clusters_of g kind = omega (arith, part_within maps c b there, reads.len) in
+    let within : k < length (bits_in maps) = grind (arith, bits_length g look kind maps reads all, clusters, small) in
+    slice_get-get_or (bits_in maps) k (not v) within
+    ∙ ap Some (bits-get g look kind maps c it b (not v) reads all there small ∙ get_or_from_slice_get b.used it v (not v) at)
 
 -- where all parts are spelled, and another one is put in the place of one, all are
 pub all-put : {V : Type 0} (xs : List (Option V)) (at : ℕ) (v : V) → AllSpelled xs → AllSpelled (slice_set xs at (Some v))
