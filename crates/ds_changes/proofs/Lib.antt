@@ -1,0 +1,17 @@
+pub mod Bits
+pub mod Entered
+pub mod EnteredTrees
+pub mod Filled
+pub mod FreeItems
+pub mod Frames
+pub mod Grown
+pub mod Granting
+pub mod Listed
+pub mod Makes
+pub mod Names
+pub mod NewBodies
+pub mod Puts
+pub mod Spelling
+pub mod StandsFilled
+pub mod StandsGrown
+pub mod Rooms

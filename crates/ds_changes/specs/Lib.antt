@@ -1,0 +1,5 @@
+pub mod Beginning
+pub mod Changed
+pub mod Entering
+pub mod Making
+pub mod Puts
