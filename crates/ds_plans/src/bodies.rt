@@ -1,5 +1,5 @@
 //! Bodies and sub-blocks as a planner sees them.
-ghost use Rattle.std.specs.Prelude.{◌≡◌, ◌<◌, Some, Ok};
+ghost use Rattle.std.specs.Prelude.{◌≡◌, ◌<◌, IfOk};
 ghost use Rattle.ds_base.specs.Geometry.{IsGeom, items_of};
 ghost use Rattle.ds_base.specs.declared.geometry.Kind.TheVariants.{Fd, Sb};
 ghost use Rattle.ds_fd.specs.Body.{IsBody};
@@ -18,7 +18,8 @@ use ds_tree::TreeReply;
 /// The body of a key's object; otherwise what a planner asks for, or answers, before it knows it.
 pub fn body_of_key(geom: &Geom, seen: &Seen, key: &Key) -> Result<Body, Ask>
     requires { IsGeom geom.now }
-    ensures { (p : Parts) → Reads geom.now (look_of seen.now) p → result ≡ body_of_key geom.now seen.now p key.now }
+    ensures answer { (p : Parts) → Reads geom.now (look_of seen.now) p → result ≡ body_of_key geom.now seen.now p key.now }
+    ensures inside { IfOk result (λ body. body.object < items_of geom.now Fd) }
 {
     if key.object >= descriptors(geom) {
         return Err(Ask::Done(TreeReply::NoObject));
@@ -36,7 +37,8 @@ pub fn body_of_key(geom: &Geom, seen: &Seen, key: &Key) -> Result<Body, Ask>
 /// The body of a key's directory; otherwise what a planner asks for, or answers, before it knows it.
 pub fn dir_of_key(geom: &Geom, seen: &Seen, key: &Key) -> Result<Body, Ask>
     requires { IsGeom geom.now }
-    ensures { (p : Parts) → Reads geom.now (look_of seen.now) p → result ≡ dir_of_key geom.now seen.now p key.now }
+    ensures answer { (p : Parts) → Reads geom.now (look_of seen.now) p → result ≡ dir_of_key geom.now seen.now p key.now }
+    ensures inside { IfOk result (λ body. body.object < items_of geom.now Fd) }
 {
     let body = body_of_key(geom, seen, key)?;
     match body.kind {
@@ -66,7 +68,8 @@ fn sub_blocks(geom: &Geom) -> u32
 fn body_seen(geom: &Geom, seen: &Seen, object: ObjNo) -> Result<Body, Ask>
     requires geom { IsGeom geom.now }
     requires inside { object < items_of geom.now Fd }
-    ensures { (p : Parts) → Reads geom.now (look_of seen.now) p → result ≡ body_seen geom.now seen.now p object }
+    ensures answer { (p : Parts) → Reads geom.now (look_of seen.now) p → result ≡ body_seen geom.now seen.now p object }
+    ensures inside { IfOk result (λ body. body.object < items_of geom.now Fd) }
 {
     let at = sector_of(geom, &Place::Body(object));
     let Some(sector) = seen.sector(at) else {

@@ -8,8 +8,8 @@ use Rattle.ds_plans.specs.Bodies.{part_seen}
 use Rattle.ds_plans.proofs.Alike.{body_decoded, part_seen-as}
 use Rattle.ds_plans.proofs.bodies.body_seen.Goals as goal
 
-pub returns-in-None : goal.returns-in-None
-returns-in-None c p reads =
+pub returns-in-None-clause-answer : goal.returns-in-None-clause-answer
+returns-in-None-clause-answer c p reads =
     let at = c.sector_of-at.result in
     let look = look_of c.args.seen.now in
     let s = c.in-Some.sector.now in
