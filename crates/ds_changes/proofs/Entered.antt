@@ -57,7 +57,7 @@ module _ (p q : Parts) (d o : ℕ) (dir dir' new : Body) (e : Entry) (en : Enter
   pub count-same : length q.bodies ≡ length p.bodies
   count-same = ap length en.bodies ∙ length-set (slice_set p.bodies d (Some dir')) o (Some new) ∙ length-set p.bodies d (Some dir')
 
-  at-new : part_at q.bodies o ≡ Some new
+  pub at-new : part_at q.bodies o ≡ Some new
   at-new =
       ap (λ bs. part_at bs o) en.bodies
       ∙ get_or-set_same (slice_set p.bodies d (Some dir')) o (Some new) None (omega (arith, o-within, length-set p.bodies d (Some dir')))
@@ -65,7 +65,7 @@ module _ (p q : Parts) (d o : ℕ) (dir dir' new : Body) (e : Entry) (en : Enter
   at-past : (k : ℕ) → k ≢ o → part_at q.bodies k ≡ part_at (slice_set p.bodies d (Some dir')) k
   at-past k other = ap (λ bs. part_at bs k) en.bodies ∙ get_or-set_other (slice_set p.bodies d (Some dir')) o k (Some new) None other
 
-  at-dir : part_at q.bodies d ≡ Some dir'
+  pub at-dir : part_at q.bodies d ≡ Some dir'
   at-dir = at-past d (λ same. apart (sym same)) ∙ get_or-set_same p.bodies d (Some dir') None d-within
 
   pub where-is : (k : ℕ) → Where p q d o dir' new k

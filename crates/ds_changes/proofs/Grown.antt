@@ -95,7 +95,7 @@ module _ (g : Geom) (look : Look) (p : Parts) (reads : Reads g look p) (sound : 
   few = subst (λ k. grown.count ≤ most_count k) (adds.kind ∙ lacks.is_dir) adds.is_body.ranges.count_to
 
   -- it stands behind those that the directory listed
-  subs-grown : subs_in grown ≡ subs_in dir ++ n ∷ []
+  pub subs-grown : subs_in grown ≡ subs_in dir ++ n ∷ []
   subs-grown =
       let wide = (body_is g look p d dir reads lacks.there).widths.address_count in
       ap (λ addresses. take grown.count addresses) adds.addresses

@@ -74,7 +74,7 @@ module _ (g : Geom) (is : IsGeom g) (image : List Sector) (t : FileTree) (stands
       reads-sub g second (record p { fd_maps = slice_set p.fd_maps c (Some map); bodies = slice_set p.bodies o (Some new) }) n block block_sector is at-sub.0 (omega (arith, at-sub.1, length-second))
       (filled-is_sub g image p stands.reads dir n e block (begun-is_entry p o e new make.begins make.named) fills) spells_block two
 
-  enters : EntersParts p (filled p c o n map new block) key.object o dir dir new e
+  pub enters : EntersParts p (filled p c o n map new block) key.object o dir dir new e
   enters = enters-filled g (slice_get image) p stands.reads stands.sound key.object o n c make.item dir new e map block make.is_item make.marks make.begins make.lacks fills
 
   not-full : is_full (entries_of p (subs_in dir)) (4 * dir.count) ≡ false

@@ -101,7 +101,7 @@ module _ (g : Geom) (is : IsGeom g) (image : List Sector) (t : FileTree) (stands
   length-fourth : length fourth ≡ length image
   length-fourth = length-set third (place_sector g (places.Body o)) new_sector ∙ length-third
 
-  enters : EntersParts p parts-after key.object o dir grown new e
+  pub enters : EntersParts p parts-after key.object o dir grown new e
   enters = enters-grown g (slice_get image) p stands.reads stands.sound key.object o n c make.item c' grow.item dir grown new e map sub_map block
       make.is_item make.marks grow.is_item grow.marks make.begins make.lacks grow.adds
 
