@@ -1,11 +1,11 @@
 -- Whoever holds the directory, the new descriptor and its cluster holds the guards of all sectors that are written to make an
 -- object in a free room, before and after.
-use Rattle.std.proofs.Common.{◌≡◌, ℕ, ◌+◌, ◌*◌, ◌<◌, Bool, true, false, List, [], ◌∷◌, ◌++◌, length, slice_get, Some, None, refl, sym, ap, subst, ◌∙◌, arith}
+use Rattle.std.proofs.Common.{◌≡◌, ℕ, List, [], ◌∷◌, slice_get}
 use Rattle.std.specs.Prelude.{All}
 use Rattle.std.proofs.lemmas.List.Elements.{All-nil, All-cons}
-use Rattle.ds_base.specs.Geometry.{IsGeom, per_cluster, items_of}
+use Rattle.ds_base.specs.Geometry.{IsGeom}
 use Rattle.ds_base.specs.declared.geometry.Geom.{Geom}
-use Rattle.ds_base.specs.declared.geometry.Kind.TheVariants.{Fd, Sb}
+use Rattle.ds_base.specs.declared.geometry.Kind.TheVariants.{Fd}
 use Rattle.ds_base.specs.declared.names.Key.{Key}
 use Rattle.ds_base.specs.declared.sectors.Sector.{Sector}
 use Rattle.ds_bitmap.specs.Bits.{Bitmap, bits_bytes}
@@ -17,28 +17,22 @@ use Rattle.ds_fd.specs.declared.body.Body.{Body}
 use Rattle.ds_layout.specs.Places.{cluster_lock, place_sector}
 use Rattle.ds_layout.specs.declared.places.Place.TheVariants as places
 use Rattle.ds_tree.specs.Nodes.{FileTree}
-use Rattle.ds_image.proofs.Places.{at-append_right}
 use Rattle.ds_image.specs.Asking.{targets_of}
 use Rattle.ds_image.specs.Looks.{Look}
 use Rattle.ds_image.specs.Owns.{IsAt}
 use Rattle.ds_image.specs.Parts.{Parts}
-use Rattle.ds_image.specs.Pending.{Pair}
 use Rattle.ds_image.specs.Readings.{Reads}
 use Rattle.ds_image.specs.Sound.{StandsFor, IsSound, sub_lists}
-use Rattle.ds_changes.specs.Entering.{subs_in, FillsRoom}
+use Rattle.ds_changes.specs.Entering.{FillsRoom}
 use Rattle.ds_changes.specs.Guarded.{GuardedBy}
-use Rattle.ds_changes.specs.Making.{ReadyToMake, ReadyToGrow}
-use Rattle.ds_changes.proofs.Bits.{bit-within}
+use Rattle.ds_changes.specs.Making.{ReadyToMake}
 use Rattle.ds_changes.proofs.Entered.{at-dir, entered-sound}
 use Rattle.ds_changes.proofs.Filled.{filled}
-use Rattle.ds_changes.proofs.Grown.{subs-grown, listed-by_none}
-use Rattle.ds_changes.proofs.Guards.{guard-body, guard-map, guard-sub_listed, guard-sub_unlisted}
+use Rattle.ds_changes.proofs.Guards.{guard-body, guard-map, guard-sub_listed}
 use Rattle.ds_changes.proofs.Listed.{listed-in}
 use Rattle.ds_changes.proofs.Spelling.{body-at, map-at, sub-at}
 use Rattle.ds_changes.proofs.StandsFilled.{filled-pairs, filled-reads}
 use Rattle.ds_changes.proofs.StandsFilled as fillings
-use Rattle.ds_changes.proofs.StandsGrown.{two-pairs, grown-pairs, grown-reads, n-within}
-use Rattle.ds_changes.proofs.StandsGrown as growings
 
 module _ (g : Geom) (is : IsGeom g) (image : List Sector) (t : FileTree) (stands : StandsFor g image t)
     (key : Key) (dir : Body) (o : ℕ) (e : Entry) (new : Body) (c : ℕ) (map : Bitmap) (n : ℕ) (block : SubBlock)

@@ -1,9 +1,9 @@
 -- Whoever holds the directory, the new descriptor and both clusters holds the guards of all sectors that are written to make an
 -- object in a directory that lists one sub-block more, before and after.
-use Rattle.std.proofs.Common.{◌≡◌, ℕ, ◌+◌, ◌*◌, ◌<◌, Bool, true, false, List, [], ◌∷◌, ◌++◌, length, slice_get, Some, None, refl, sym, ap, subst, ◌∙◌, arith}
+use Rattle.std.proofs.Common.{◌≡◌, ℕ, ◌+◌, ◌<◌, Bool, true, false, List, [], ◌∷◌, length, slice_get, Some, refl, ap, ◌∙◌}
 use Rattle.std.specs.Prelude.{All}
 use Rattle.std.proofs.lemmas.List.Elements.{All-nil, All-cons}
-use Rattle.ds_base.specs.Geometry.{IsGeom, per_cluster, items_of}
+use Rattle.ds_base.specs.Geometry.{IsGeom, items_of}
 use Rattle.ds_base.specs.declared.geometry.Geom.{Geom}
 use Rattle.ds_base.specs.declared.geometry.Kind.TheVariants.{Fd, Sb}
 use Rattle.ds_base.specs.declared.names.Key.{Key}
@@ -20,23 +20,19 @@ use Rattle.ds_tree.specs.Nodes.{FileTree}
 use Rattle.ds_image.proofs.Places.{at-append_right}
 use Rattle.ds_image.specs.Asking.{targets_of}
 use Rattle.ds_image.specs.Looks.{Look}
-use Rattle.ds_image.specs.Owns.{IsAt}
 use Rattle.ds_image.specs.Parts.{Parts}
 use Rattle.ds_image.specs.Pending.{Pair}
 use Rattle.ds_image.specs.Readings.{Reads}
-use Rattle.ds_image.specs.Sound.{StandsFor, IsSound, sub_lists}
-use Rattle.ds_changes.specs.Entering.{subs_in, FillsRoom}
+use Rattle.ds_image.specs.Sound.{StandsFor}
+use Rattle.ds_changes.specs.Entering.{subs_in}
 use Rattle.ds_changes.specs.Guarded.{GuardedBy}
 use Rattle.ds_changes.specs.Making.{ReadyToMake, ReadyToGrow}
 use Rattle.ds_changes.proofs.Bits.{bit-within}
 use Rattle.ds_changes.proofs.Entered.{at-dir, entered-sound}
-use Rattle.ds_changes.proofs.Filled.{filled}
 use Rattle.ds_changes.proofs.Grown.{subs-grown, listed-by_none}
 use Rattle.ds_changes.proofs.Guards.{guard-body, guard-map, guard-sub_listed, guard-sub_unlisted}
 use Rattle.ds_changes.proofs.Listed.{listed-in}
-use Rattle.ds_changes.proofs.Spelling.{body-at, map-at, sub-at}
-use Rattle.ds_changes.proofs.StandsFilled.{filled-pairs, filled-reads}
-use Rattle.ds_changes.proofs.StandsFilled as fillings
+use Rattle.ds_changes.proofs.Spelling.{body-at, map-at}
 use Rattle.ds_changes.proofs.StandsGrown.{two-pairs, grown-pairs, grown-reads, n-within}
 use Rattle.ds_changes.proofs.StandsGrown as growings
 
@@ -89,7 +85,7 @@ module _ (g : Geom) (is : IsGeom g) (image : List Sector) (t : FileTree) (stands
   pub grown-guarded_before : (swapped : Bool) → All (GuardedBy g (slice_get image) Held) (targets_of (pairs swapped))
   grown-guarded_before =
       let none = listed-by_none g (slice_get image) p stands.reads stands.sound key.object o n c make.item c' grow.item dir grown new e map sub_map block
-          make.is_item make.marks grow.is_item grow.marks make.begins make.lacks grow.adds in
+      make.is_item make.marks grow.is_item grow.marks make.begins make.lacks grow.adds in
       let small = bit-within g (slice_get image) Sb p.sb_maps c' grow.item grow.marks.before false (stands.reads.maps Sb) grow.marks.there grow.marks.was in
       grown-guarded (slice_get image) p stands.reads
       (record { object = cluster_lock Sb c'; guards = guard-sub_unlisted g (slice_get image) p stands.reads n c' grow.item sub-within grow.is_item small none; held = held_sub_cluster })
@@ -102,9 +98,9 @@ module _ (g : Geom) (is : IsGeom g) (image : List Sector) (t : FileTree) (stands
       let enters = growings.enters g is image t stands key dir o e new c map n grown c' sub_map block make grow in_image map_sector sub_map_sector dir_sector new_sector block_sector spells_map spells_sub_map spells_dir spells_new spells_block in
       let sound = entered-sound p q key.object o dir grown new e stands.sound enters in
       let subs = subs-grown g (slice_get image) p stands.reads stands.sound key.object o n c make.item c' grow.item dir grown new e map sub_map block
-          make.is_item make.marks grow.is_item grow.marks make.begins make.lacks grow.adds in
+      make.is_item make.marks grow.is_item grow.marks make.begins make.lacks grow.adds in
       let last : slice_get (subs_in grown) (length (subs_in dir) + 0) ≡ Some n =
-          ap (λ l. slice_get l (length (subs_in dir) + 0)) subs ∙ at-append_right (subs_in dir) (n ∷ []) 0 n refl in
+      ap (λ l. slice_get l (length (subs_in dir) + 0)) subs ∙ at-append_right (subs_in dir) (n ∷ []) 0 n refl in
       let at = listed-in q key.object (length (subs_in dir) + 0) n grown (at-dir p q key.object o dir grown new e enters.enters) (grow.adds.kind ∙ make.lacks.is_dir) last in
       grown-guarded (slice_get (grown-after swapped)) q reads
       (record { object = key.object; guards = guard-sub_listed g (slice_get (grown-after swapped)) q reads key.object (length (subs_in dir) + 0) n sub-within sound.sub_owners at; held = held_dir })

@@ -1,8 +1,8 @@
 -- Which lock object protects a sector: that of a body's descriptor, of a bitmap's cluster, of the one descriptor that lists an
 -- item, and of the item's cluster where none does.
-use Rattle.std.proofs.Common.{◌≡◌, ◌≢◌, ℕ, zero, suc, ◌+◌, ◌*◌, ◌/◌, ◌<◌, ◌==◌, ◌||◌, Bool, true, false, nat_lt, if◌then◌else◌, List, [], ◌∷◌, length, get_or, slice_get, Option, Some, None, refl, sym, ap, subst, ◌∙◌, eq-eqb, ne_eqb, inl, inr, arith}
+use Rattle.std.proofs.Common.{◌≡◌, ℕ, zero, suc, ◌+◌, ◌*◌, ◌/◌, ◌<◌, ◌==◌, ◌||◌, Bool, true, false, nat_lt, List, [], ◌∷◌, length, slice_get, Some, refl, sym, ap, subst, ◌∙◌, eq-eqb, ne_eqb, inl, inr, arith}
 use Rattle.std.specs.List.{list_any}
-use Rattle.std.proofs.lemmas.Bool.{cases_lt, cases_eq}
+use Rattle.std.proofs.lemmas.Bool.{cases_lt}
 use Rattle.std.proofs.lemmas.Bool.Decides.{nat_tests}
 use Rattle.std.proofs.lemmas.List.{get_or_past}
 use Rattle.std.proofs.lemmas.List.Sums.{position_or_len_is}
@@ -47,18 +47,18 @@ pub lister-listed : (lists : List (List ℕ)) (bits : List Bool) (d i n cluster 
 lister-listed lists bits d i n cluster owns at =
     let within : d < length lists = lists-within lists d i n at in
     let least : least_lister lists n ≡ d =
-        position_or_len_is (λ list. list_any (λ x. x == n) list) lists d [] (omega (arith, within))
-        (λ k below. not-listed lists k n (λ j at'. omega (arith, (owns.once k j d i n at' at).0, below)))
-        (λ _. any-at (λ x. x == n) (list_of lists d) i n at (eq-eqb n n refl)) in
+    position_or_len_is (λ list. list_any (λ x. x == n) list) lists d [] (omega (arith, within))
+    (λ k below. not-listed lists k n (λ j at'. omega (arith, (owns.once k j d i n at' at).0, below)))
+    (λ _. any-at (λ x. x == n) (list_of lists d) i n at (eq-eqb n n refl)) in
     let test : nat_lt d (length lists) ≡ true = grind (arith, nat_tests) in
     rw (least, test) refl
 
 pub lister-unlisted : (lists : List (List ℕ)) (n cluster : ℕ) → ((k i : ℕ) → ¬ IsAt lists k i n) → lister_or lists n cluster ≡ cluster
 lister-unlisted lists n cluster none =
     let least : least_lister lists n ≡ length lists =
-        position_or_len_is (λ list. list_any (λ x. x == n) list) lists (length lists) [] (omega arith)
-        (λ k below. not-listed lists k n (none k))
-        (λ l. absurd (omega arith)) in
+    position_or_len_is (λ list. list_any (λ x. x == n) list) lists (length lists) [] (omega arith)
+    (λ k below. not-listed lists k n (none k))
+    (λ l. absurd (omega arith)) in
     let test : nat_lt (length lists) (length lists) ≡ false = grind (arith, nat_tests) in
     rw (least, test) refl
 
