@@ -1,1 +1,3 @@
+pub mod ManyBits
+pub mod MapWrites
 pub mod Replacing

@@ -1,1 +1,2 @@
+pub mod MapWrites
 pub mod Replaced
