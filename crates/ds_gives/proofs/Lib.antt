@@ -1,3 +1,9 @@
+pub mod Emptied
+pub mod Going
+pub mod Gone
+pub mod GoneTrees
+pub mod GuardedGone
 pub mod ManyBits
 pub mod MapWrites
 pub mod Replacing
+pub mod StandsGone
