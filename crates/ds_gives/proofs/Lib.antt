@@ -3,7 +3,12 @@ pub mod Going
 pub mod Gone
 pub mod GoneTrees
 pub mod GuardedGone
+pub mod Kept
+pub mod KeptTrees
 pub mod ManyBits
 pub mod MapWrites
+pub mod Renamed
+pub mod Renaming
 pub mod Replacing
 pub mod StandsGone
+pub mod StandsRenamed

@@ -1,3 +1,4 @@
 pub mod Leaving
 pub mod MapWrites
+pub mod Moving
 pub mod Replaced
