@@ -7,6 +7,8 @@ pub mod Kept
 pub mod KeptTrees
 pub mod ManyBits
 pub mod MapWrites
+pub mod Moved
+pub mod MovedLeaves
 pub mod Renamed
 pub mod Renaming
 pub mod Replacing
