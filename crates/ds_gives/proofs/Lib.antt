@@ -1,3 +1,4 @@
+pub mod Crossing
 pub mod Emptied
 pub mod Going
 pub mod Gone
