@@ -13,5 +13,6 @@ pub mod MovedLeaves
 pub mod Renamed
 pub mod Renaming
 pub mod Replacing
+pub mod StandsCrossed
 pub mod StandsGone
 pub mod StandsRenamed
