@@ -1,4 +1,5 @@
 pub mod Crossing
+pub mod CrossingGrown
 pub mod Emptied
 pub mod Going
 pub mod Gone
