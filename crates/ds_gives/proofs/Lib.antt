@@ -1,6 +1,7 @@
 pub mod Crossing
 pub mod CrossingGrown
 pub mod Emptied
+pub mod Ended
 pub mod Going
 pub mod Gone
 pub mod GoneTrees
@@ -15,5 +16,6 @@ pub mod Renamed
 pub mod Renaming
 pub mod Replacing
 pub mod StandsCrossed
+pub mod StandsCrossedGrown
 pub mod StandsGone
 pub mod StandsRenamed
