@@ -16,12 +16,15 @@ use Rattle.ds_image.specs.Owned.{ClearsMarks}
 use Rattle.ds_image.specs.Owns.{bit}
 use Rattle.ds_image.specs.Parts.{Parts, part_at, AllSpelled, maps_of, bits_in}
 use Rattle.ds_image.specs.Readings.{Reads}
+use Rattle.ds_image.proofs.Listed.{bits_length}
+use Rattle.ds_image.proofs.Places.{marked-within}
 use Rattle.ds_changes.specs.Changed.{with_maps}
 use Rattle.ds_changes.proofs.Bits.{all-put}
 use Rattle.ds_changes.proofs.Frames.{reads-map}
 use Rattle.ds_changes.proofs.Spelling.{map-at}
-use Rattle.ds_gives.specs.MapWrites.{MapWrite, map_pair, map_pairs, with_map, with_all_maps, BitChange, ChangesMap, ChangesMaps, IsUnwritten, AreWrittenOnce, IsClearedOf, ClearsMaps}
-use Rattle.ds_gives.proofs.ManyBits.{some-is, bits-each, clears-each}
+use Rattle.ds_gives.specs.MapWrites.{MapWrite, map_pair, map_pairs, with_map, with_all_maps, BitChange, ChangesMap, ChangesMaps, IsUnwritten, AreWrittenOnce, IsClearedOf, IsReplacedBy, ClearsMaps}
+use Rattle.ds_gives.specs.Replaced.{ReplacesMarks}
+use Rattle.ds_gives.proofs.ManyBits.{some-is, bits-each, bits-count, clears-each}
 
 pub same-kind_or_not : (a b : Kind) → (a ≡ b) ⊎ (a ≢ b)
 same-kind_or_not Fd Fd = inl refl
@@ -249,6 +252,26 @@ module _ (g : Geom) (is : IsGeom g) (image : List Sector) (p : Parts) (reads : R
           | inl found ↦ at-kind kind c it b b' found.0 found.1.0 found.1.1 found.1.2 found.1.3 there there' small
           | inr none ↦ stayed c it b b' there there' small none
         ]
+
+  -- old items that new ones of the volume take the place of
+  pub replaces-marks : (old new : Kind → List ℕ) → ChangesMaps g p (IsReplacedBy old new) writes → (kind : Kind) → ((x : ℕ) → Contains (new kind) x → x < items_of g kind)
+      → ReplacesMarks (bits_in (maps_of p kind)) (old kind) (new kind) (bits_in (maps_of (with_all_maps p writes) kind))
+  replaces-marks old new changes kind in_range =
+      let after = bits_in (maps_of (with_all_maps p writes) kind) in
+      let reads' = (changes-read (IsReplacedBy old new) changes).maps kind in
+      let look' = slice_get (laid_over image (map_pairs g writes)) in
+      let all' = all-written p writes all kind in
+      let each = bits-change (IsReplacedBy old new) changes kind in
+      record {
+        count = bits-count g (slice_get image) look' kind (maps_of p kind) (maps_of (with_all_maps p writes) kind) (reads.maps kind) (all kind) reads' all';
+        marks = λ x. (
+          λ marked. (each x (omega (arith, marked-within after x marked, bits_length g look' kind (maps_of (with_all_maps p writes) kind) reads' all'))).0 marked,
+          λ either. elim either [
+            | inl held ↦ (each x (in_range x held)).1 (inl held)
+            | inr both ↦ (each x (omega (arith, marked-within (bits_in (maps_of p kind)) x both.0, bits_length g (slice_get image) kind (maps_of p kind) (reads.maps kind) (all kind)))).1 (inr both)
+          ],
+        );
+      }
 
   -- bits that are cleared change so
   pub clears-change : (given : Kind → List ℕ) → ClearsMaps g p given writes → ChangesMaps g p (IsClearedOf given) writes

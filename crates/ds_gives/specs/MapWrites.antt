@@ -1,5 +1,5 @@
 -- Bitmaps of several clusters that are written.
-use Rattle.std.specs.Prelude.{◌≡◌, ◌↔◌, ℕ, ◌+◌, ◌*◌, ◌/◌, ◌<◌, Bool, true, List, length, map, fold, Contains, Some, slice_get, slice_set}
+use Rattle.std.specs.Prelude.{◌≡◌, ◌↔◌, ◌⊎◌, ℕ, ◌+◌, ◌*◌, ◌/◌, ◌<◌, Bool, true, List, length, map, fold, Contains, Some, slice_get, slice_set}
 use Rattle.ds_base.specs.Geometry.{per_cluster}
 use Rattle.ds_base.specs.declared.geometry.Geom.{Geom}
 use Rattle.ds_base.specs.declared.geometry.Kind.{Kind}
@@ -67,6 +67,10 @@ pub record ChangesMaps (g : Geom) (p : Parts) (Change : BitChange) (writes : Lis
 -- an item is marked after exactly where it was and isn't one of those given up
 abbrev pub IsClearedOf : (Kind → List ℕ) → BitChange
 IsClearedOf given kind item before after = (after ≡ true) ↔ ((before ≡ true) × ¬ Contains (given kind) item)
+
+-- an item is marked after exactly where it is a new one, or was marked and is none of the old ones
+abbrev pub IsReplacedBy : (Kind → List ℕ) → (Kind → List ℕ) → BitChange
+IsReplacedBy old new kind item before after = (after ≡ true) ↔ (Contains (new kind) item ⊎ ((before ≡ true) × ¬ Contains (old kind) item))
 
 -- the bits of the items that are given up of each kind are cleared
 pub record ClearsMaps (g : Geom) (p : Parts) (given : Kind → List ℕ) (writes : List MapWrite) : Type 0 where
