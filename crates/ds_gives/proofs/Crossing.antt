@@ -1,39 +1,24 @@
 -- One sub-block loses an entry, and another directory's sub-block gets it under its new name.
-use Rattle.std.proofs.Common.{◌≡◌, ◌≢◌, ℕ, ◌+◌, ◌*◌, ◌<◌, ◌≤◌, inl, inr, true, false, List, [], ◌∷◌, ◌++◌, length, map, take, get_or, slice_get, slice_set, Option, Some, None, IsSome, is_some, refl, sym, ap, subst, ◌∙◌, get_or-set_same, get_or-set_other, length-set, arith}
+use Rattle.std.proofs.Common.{◌≡◌, ◌≢◌, ℕ, ◌<◌, List, length, get_or, slice_get, slice_set, Option, Some, None, IsSome, refl, sym, ap, subst, ◌∙◌, get_or-set_same, get_or-set_other, length-set, arith}
 use Rattle.std.specs.Prelude.{All}
-use Rattle.std.proofs.lemmas.Bool.{cases_eq, cases_lt, false≢true}
-use Rattle.std.proofs.lemmas.List.{get_or_past, get_or_default, length-map, set-get_or, take_more_set}
-use Rattle.std.proofs.lemmas.List.Elements.{All-nil, All-cons, All-append}
-use Rattle.std.proofs.lemmas.Option.{get_or_from_slice_get}
-use Rattle.ds_base.specs.Geometry.{per_cluster, items_of}
-use Rattle.ds_base.specs.declared.geometry.Geom.{Geom}
-use Rattle.ds_base.specs.declared.geometry.Kind.{Kind}
-use Rattle.ds_base.specs.declared.geometry.Kind.TheVariants.{Fd, Sb, Pb, Fb}
+use Rattle.std.proofs.lemmas.List.{set-get_or}
 use Rattle.ds_base.specs.declared.names.Key.{Key}
 use Rattle.ds_bitmap.specs.Bits.{Bitmap}
 use Rattle.ds_dir.specs.declared.sub_block.Entry.{Entry}
 use Rattle.ds_dir.specs.declared.sub_block.SubBlock.{SubBlock}
-use Rattle.ds_fd.specs.Body.{most_count}
 use Rattle.ds_fd.specs.declared.body.Body.{Body}
-use Rattle.ds_image.specs.Looks.{Look}
 use Rattle.ds_image.specs.Objects.{rooms_in, subs_of, subs_by, used_rooms}
-use Rattle.ds_image.specs.Owns.{Owns, IsAt, list_of}
-use Rattle.ds_image.specs.Parts.{Parts, part_at, AllSpelled, maps_of, bits_in}
-use Rattle.ds_image.specs.Readings.{Reads}
+use Rattle.ds_image.specs.Owns.{IsAt}
+use Rattle.ds_image.specs.Parts.{Parts, part_at}
 use Rattle.ds_image.specs.Sound.{IsSound, sub_lists}
-use Rattle.ds_image.proofs.Listed.{bits_length}
-use Rattle.ds_image.proofs.Owning.{owns-alike, owns-grown}
-use Rattle.ds_image.proofs.Sizes.{part_within, body_is}
-use Rattle.ds_image.proofs.SoundParts.{each_kind, list-is, objects-of}
-use Rattle.ds_changes.specs.Beginning.{SetsBit}
-use Rattle.ds_changes.specs.Entering.{subs_in, LacksName, FillsRoom}
+use Rattle.ds_image.proofs.Sizes.{part_within}
+use Rattle.ds_image.proofs.SoundParts.{objects-of}
+use Rattle.ds_changes.specs.Entering.{subs_in, FillsRoom}
 use Rattle.ds_changes.specs.Puts.{IsPut}
-use Rattle.ds_changes.proofs.Bits.{bits-set, bits-get, all-put, bit-within}
-use Rattle.ds_changes.proofs.Listed.{listed-by, listed-in, listed-nowhere, part-put}
+use Rattle.ds_changes.proofs.Listed.{listed-by, listed-in, part-put}
 use Rattle.ds_changes.proofs.Puts.{in_use, put-room, put-room_back}
-use Rattle.ds_changes.proofs.Rooms.{used_in, used-same, used-put, used-added}
-use Rattle.ds_gives.specs.Leaving.{HasDir}
-use Rattle.ds_gives.specs.Moving.{ReadyToLeave, ReadyToAdd}
+use Rattle.ds_changes.proofs.Rooms.{used_in, used-same, used-put}
+use Rattle.ds_gives.specs.Moving.{ReadyToLeave}
 use Rattle.ds_gives.proofs.Kept.{KeepsObjects}
 use Rattle.ds_gives.proofs.Moved.{MovesParts}
 

@@ -1,13 +1,12 @@
 -- One sub-block loses an entry, and another directory lists one sub-block more, which has the entry alone under its new name.
-use Rattle.std.proofs.Common.{◌≡◌, ◌≢◌, ℕ, ◌+◌, ◌*◌, ◌<◌, ◌≤◌, inl, inr, true, false, List, [], ◌∷◌, ◌++◌, length, take, get_or, slice_get, slice_set, Option, Some, None, IsSome, is_some, refl, sym, ap, subst, ◌∙◌, get_or-set_same, get_or-set_other, arith}
+use Rattle.std.proofs.Common.{◌≡◌, ◌≢◌, ℕ, ◌<◌, ◌≤◌, inl, inr, true, false, List, [], ◌∷◌, ◌++◌, length, take, get_or, slice_get, slice_set, Some, None, IsSome, is_some, refl, sym, ap, subst, ◌∙◌, get_or-set_same, get_or-set_other, arith}
 use Rattle.std.specs.Prelude.{All}
 use Rattle.std.proofs.lemmas.Bool.{cases_eq, cases_lt, false≢true}
 use Rattle.std.proofs.lemmas.List.{get_or_past, get_or_default, length-map, take_more_set}
 use Rattle.std.proofs.lemmas.List.Elements.{All-nil, All-cons, All-append}
 use Rattle.std.proofs.lemmas.Option.{get_or_from_slice_get}
-use Rattle.ds_base.specs.Geometry.{per_cluster, items_of}
+use Rattle.ds_base.specs.Geometry.{items_of}
 use Rattle.ds_base.specs.declared.geometry.Geom.{Geom}
-use Rattle.ds_base.specs.declared.geometry.Kind.{Kind}
 use Rattle.ds_base.specs.declared.geometry.Kind.TheVariants.{Fd, Sb, Pb, Fb}
 use Rattle.ds_base.specs.declared.names.Key.{Key}
 use Rattle.ds_bitmap.specs.Bits.{Bitmap}
@@ -32,7 +31,7 @@ use Rattle.ds_changes.proofs.Listed.{listed-by, listed-in, listed-nowhere}
 use Rattle.ds_changes.proofs.Puts.{in_use}
 use Rattle.ds_changes.proofs.Rooms.{used_in, used-added}
 use Rattle.ds_gives.specs.Moving.{ReadyToLeave, ReadyToAdd}
-use Rattle.ds_gives.proofs.Crossing.{crossed_grown, at-second, at-others, n-listed, n-elsewhere, spelled-crossed, taken-crossed, elsewhere-crossed, to-subs}
+use Rattle.ds_gives.proofs.Crossing.{crossed_grown, at-second, at-others, n-elsewhere, spelled-crossed, taken-crossed, elsewhere-crossed, to-subs}
 use Rattle.ds_gives.proofs.Kept.{KeepsObjects}
 use Rattle.ds_gives.proofs.Moved.{MovesParts}
 

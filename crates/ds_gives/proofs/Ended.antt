@@ -1,5 +1,5 @@
 -- The body of a descriptor that is no longer in use.
-use Rattle.std.proofs.Common.{◌≡◌, ℕ, ◌-◌, zero, suc, ◌<◌, ◌≤◌, ◌^◌, List, [], length, replicate, drop, None, lit<, refl, sym, ap, subst, ◌∙◌, arith}
+use Rattle.std.proofs.Common.{◌≡◌, ℕ, ◌-◌, zero, suc, ◌<◌, ◌≤◌, ◌^◌, length, drop, None, lit<, sym, ap, subst, ◌∙◌, arith}
 use Rattle.std.proofs.lemmas.List.{length-replicate}
 use Rattle.ds_bytes.specs.Fields.{zeros, AllBelow}
 use Rattle.ds_fd.specs.Body.{IsBody, links_of, most_count, least_birth, addresses_used}

@@ -1,6 +1,6 @@
 -- No refusal holds where an object without entries can go with its entry: so the call takes them away, and the tree keeps
 -- the rules.
-use Rattle.std.proofs.Common.{◌≡◌, ℕ, ◌*◌, Bool, true, false, not, nat_lt, List, [], Option, Some, None, MatchOption, refl, sym, ap, subst, ◌∙◌, arith}
+use Rattle.std.proofs.Common.{◌≡◌, ℕ, false, not, nat_lt, List, [], Option, Some, None, MatchOption, refl, sym, ap, subst, ◌∙◌}
 use Rattle.std.specs.Prelude.{is_some}
 use Rattle.std.specs.FinMap as maps
 use Rattle.std.specs.Ordering.{nat_cmp}
@@ -10,15 +10,14 @@ use Rattle.ds_base.specs.declared.geometry.Geom.{Geom}
 use Rattle.ds_base.specs.declared.names.Key.{Key}
 use Rattle.ds_base.specs.declared.names.NodeKind.{NodeKind}
 use Rattle.ds_base.specs.declared.names.NodeKind.TheVariants as kinds
-use Rattle.ds_dir.specs.declared.sub_block.Entry.{Entry}
 use Rattle.ds_fd.specs.declared.body.Body.{Body}
 use Rattle.ds_tree.proofs.StepKeeps.{step-keeps}
 use Rattle.ds_tree.specs.CallNames.{HasNames}
-use Rattle.ds_tree.specs.Nodes.{Entries, Node, Dir, File, Object, FileTree, node_at, node_of_key}
-use Rattle.ds_tree.specs.Steps.{in_dir, entry_node, is_dir, is_file, has_entries, refusal, refuses_missing, refuses_remove, refuses_rmdir, Removes, Succeeds, Does}
+use Rattle.ds_tree.specs.Nodes.{Entries, Node, Dir, FileTree, node_at, node_of_key}
+use Rattle.ds_tree.specs.Steps.{in_dir, entry_node, is_dir, is_file, has_entries, refusal, refuses_remove, refuses_rmdir, Removes, Succeeds, Does}
 use Rattle.ds_tree.specs.WellFormed.{IsTree}
 use Rattle.ds_tree.specs.declared.calls.TreeReply.TheVariants.{Gone}
-use Rattle.ds_image.specs.Objects.{subs_of, subs_by, used_rooms, node_by, tree_of}
+use Rattle.ds_image.specs.Objects.{subs_of, subs_by, used_rooms, node_by}
 use Rattle.ds_image.specs.Parts.{Parts}
 use Rattle.ds_changes.specs.Entering.{subs_in}
 use Rattle.ds_changes.proofs.Names.{by_name}

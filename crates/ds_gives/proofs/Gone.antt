@@ -1,6 +1,6 @@
 -- Parts of which a directory has an entry less, and the object that it named is no longer in use: what they list, and that
 -- they agree.
-use Rattle.std.proofs.Common.{◌≡◌, ◌≢◌, ℕ, ◌+◌, ◌<◌, ◌⊎◌, Bool, true, false, inl, inr, List, [], ◌∷◌, length, map, get_or, slice_get, slice_set, Option, Some, None, IsSome, is_some, refl, sym, ap, subst, ◌∙◌, length-set, get_or-set_same, get_or-set_other, arith}
+use Rattle.std.proofs.Common.{◌≡◌, ◌≢◌, ℕ, ◌+◌, ◌<◌, Bool, true, false, inl, inr, List, [], ◌∷◌, length, map, get_or, slice_get, slice_set, Option, Some, None, IsSome, is_some, refl, sym, ap, subst, ◌∙◌, length-set, get_or-set_same, get_or-set_other, arith}
 use Rattle.std.specs.Prelude.{All}
 use Rattle.std.specs.FinMap as maps
 use Rattle.std.proofs.lemmas.Bool.{cases_eq}
@@ -9,15 +9,14 @@ use Rattle.std.proofs.lemmas.List.Elements.{All-nil}
 use Rattle.ds_base.specs.declared.geometry.Geom.{Geom}
 use Rattle.ds_base.specs.declared.geometry.Kind.{Kind}
 use Rattle.ds_base.specs.declared.geometry.Kind.TheVariants.{Fd, Sb, Pb, Fb}
-use Rattle.ds_base.specs.declared.names.NodeKind.TheVariants as kinds
 use Rattle.ds_dir.specs.declared.sub_block.Entry.{Entry}
 use Rattle.ds_fd.specs.declared.body.Body.{Body}
 use Rattle.ds_tree.specs.WellFormed.{IsTree}
 use Rattle.ds_image.specs.Objects.{subs_by, ptrs_by, blocks_by, tail_by, subs_of, ptrs_of, blocks_of, used_rooms, is_used, tree_of}
 use Rattle.ds_image.specs.Owned.{ClearsMarks}
-use Rattle.ds_image.specs.Owns.{Owns, list_of, bit}
+use Rattle.ds_image.specs.Owns.{Owns, bit}
 use Rattle.ds_image.specs.Parts.{Parts, part_at, AllSpelled, maps_of, bits_in}
-use Rattle.ds_image.specs.Sound.{IsSound, IsNamedRight, AreZero, sub_lists, ptr_lists, block_lists, rooms_used_by}
+use Rattle.ds_image.specs.Sound.{IsSound, IsNamedRight, AreZero, rooms_used_by}
 use Rattle.ds_image.specs.SoundObjects.{AreNamesApart, IsSoundObject, IsMarked}
 use Rattle.ds_image.proofs.EntryNames.{find-at, get-entries}
 use Rattle.ds_image.proofs.Marking.{clears-one}

@@ -1,5 +1,5 @@
 -- The tree of parts of which a directory has an entry less, and the object that it named is gone.
-use Rattle.std.proofs.Common.{◌≡◌, ℕ, ◌*◌, length, map, Some, None, refl, sym, ap, ◌∙◌, length-set, get_or-set_same, get_or-set_other, inl, inr, arith}
+use Rattle.std.proofs.Common.{◌≡◌, ℕ, ◌*◌, length, map, Some, None, sym, ap, ◌∙◌, length-set, get_or-set_same, get_or-set_other, inl, inr, arith}
 use Rattle.std.specs.FinMap as maps
 use Rattle.std.proofs.lemmas.Bool.{cases_eq}
 use Rattle.std.proofs.lemmas.List.{ext_get_or, get_or-map, length-map}
@@ -18,7 +18,7 @@ use Rattle.ds_changes.specs.Entering.{subs_in}
 use Rattle.ds_changes.proofs.EnteredTrees.{dir-object}
 use Rattle.ds_changes.proofs.Names.{by_name-taken}
 use Rattle.ds_changes.proofs.NewBodies.{object-same}
-use Rattle.ds_gives.proofs.Gone.{GoesFrom, put-here, is_gone, is_other, where-is, apart, o-within, d-within, count-same, dir-rooms, dir-apart, old-birth, old-kind}
+use Rattle.ds_gives.proofs.Gone.{GoesFrom, put-here, is_gone, is_other, where-is, apart, o-within, d-within, count-same, dir-apart, old-birth, old-kind}
 
 module _ (g : Geom) (p q : Parts) (d : ℕ) (dir : Body) (e : Entry) (old new : Body) (sound : IsSound p) (goes : GoesFrom p q d dir e old new) where
   abbrev o : ℕ

@@ -1,6 +1,6 @@
 -- Whoever holds the directory, the object that goes and the clusters of its items holds the guards of all sectors that are
 -- written to take it away, before and after.
-use Rattle.std.proofs.Common.{◌≡◌, ℕ, suc, ◌<◌, List, [], ◌∷◌, ◌++◌, slice_get, Some, refl, sym, ◌∙◌, arith}
+use Rattle.std.proofs.Common.{◌≡◌, ℕ, suc, ◌<◌, List, [], ◌∷◌, ◌++◌, slice_get, Some, refl, ◌∙◌}
 use Rattle.std.specs.Prelude.{All}
 use Rattle.std.proofs.lemmas.List.Elements.{All-nil, All-cons}
 use Rattle.ds_base.specs.Geometry.{IsGeom, clusters_of}
@@ -27,7 +27,7 @@ use Rattle.ds_changes.proofs.Guards.{guard-body, guard-map, guard-sub_listed}
 use Rattle.ds_changes.proofs.Listed.{listed-in}
 use Rattle.ds_changes.proofs.Spelling.{body-at, map-at, sub-at}
 use Rattle.ds_gives.specs.Leaving.{ReadyToGo, changed_parts}
-use Rattle.ds_gives.specs.MapWrites.{MapWrite, map_pair, map_pairs}
+use Rattle.ds_gives.specs.MapWrites.{MapWrite, map_pairs}
 use Rattle.ds_gives.proofs.Gone.{apart, at-other, gone-sound}
 use Rattle.ds_gives.proofs.StandsGone.{gone-pairs, gone-reads}
 use Rattle.ds_gives.proofs.StandsGone as leaving

@@ -1,11 +1,10 @@
 -- The tree of parts in which entries move, object by object.
-use Rattle.std.proofs.Common.{◌≡◌, ◌≢◌, ℕ, ◌*◌, length, map, Some, sym, ap, ◌∙◌}
+use Rattle.std.proofs.Common.{◌≡◌, ◌≢◌, ℕ, ◌*◌, length, Some, sym, ap, ◌∙◌}
 use Rattle.std.proofs.lemmas.List.{ext_get_or, length-map}
 use Rattle.ds_fd.specs.declared.body.Body.{Body}
-use Rattle.ds_tree.specs.Nodes.{Dir, Object, FileTree, unborn, object_at}
+use Rattle.ds_tree.specs.Nodes.{Dir, FileTree, unborn, object_at}
 use Rattle.ds_image.specs.Objects.{node_by, object_of, tree_of, entries_of, subs_of, used_rooms}
 use Rattle.ds_image.specs.Parts.{Parts, part_at}
-use Rattle.ds_image.specs.Sound.{rooms_used_by}
 use Rattle.ds_image.proofs.TreeParts.{object-is, objects-are}
 use Rattle.ds_changes.specs.Entering.{subs_in}
 use Rattle.ds_changes.proofs.NewBodies.{object-same}

@@ -1,5 +1,5 @@
 -- What parts are after bitmaps of several clusters were written.
-use Rattle.std.proofs.Common.{◌≡◌, ◌≢◌, ℕ, zero, suc, ◌+◌, ◌*◌, ◌/◌, ◌<◌, ◌⊎◌, inl, inr, Bool, true, List, [], ◌∷◌, length, Option, Some, None, IsSome, slice_get, slice_set, refl, sym, ap, subst, ◌∙◌, length-set, get_or-set_same, get_or-set_other, arith}
+use Rattle.std.proofs.Common.{◌≡◌, ◌≢◌, ℕ, zero, suc, ◌+◌, ◌*◌, ◌<◌, ◌⊎◌, inl, inr, List, [], ◌∷◌, length, Option, Some, None, slice_get, slice_set, refl, sym, ap, subst, ◌∙◌, length-set, get_or-set_same, get_or-set_other, arith}
 use Rattle.std.specs.Prelude.{Contains}
 use Rattle.std.proofs.lemmas.Bool.{cases_eq}
 use Rattle.std.proofs.lemmas.Nat.{div-mul-add}
@@ -22,7 +22,7 @@ use Rattle.ds_changes.specs.Changed.{with_maps}
 use Rattle.ds_changes.proofs.Bits.{all-put}
 use Rattle.ds_changes.proofs.Frames.{reads-map}
 use Rattle.ds_changes.proofs.Spelling.{map-at}
-use Rattle.ds_gives.specs.MapWrites.{MapWrite, map_pair, map_pairs, with_map, with_all_maps, BitChange, ChangesMap, ChangesMaps, IsUnwritten, AreWrittenOnce, IsClearedOf, IsReplacedBy, ClearsMaps}
+use Rattle.ds_gives.specs.MapWrites.{MapWrite, map_pairs, with_map, with_all_maps, BitChange, ChangesMap, ChangesMaps, IsUnwritten, AreWrittenOnce, IsClearedOf, IsReplacedBy, ClearsMaps}
 use Rattle.ds_gives.specs.Replaced.{ReplacesMarks}
 use Rattle.ds_gives.proofs.ManyBits.{some-is, bits-each, bits-count, clears-each}
 

@@ -1,5 +1,5 @@
 -- Parts of which an entry has left its directory for another one.
-use Rattle.std.proofs.Common.{◌≡◌, ◌≢◌, ℕ, ◌*◌, ◌<◌, List, length, slice_get, Some, None, inl, inr, refl, sym, ap, subst, ◌∙◌, get_or-set_same, get_or-set_other, length-set, arith}
+use Rattle.std.proofs.Common.{◌≡◌, ◌≢◌, ℕ, ◌*◌, ◌<◌, length, slice_get, Some, None, inl, inr, sym, ap, subst, ◌∙◌, get_or-set_same, get_or-set_other, length-set, arith}
 use Rattle.std.specs.FinMap as maps
 use Rattle.std.proofs.lemmas.Bool.{cases_eq}
 use Rattle.ds_base.specs.declared.names.Key.{Key}

@@ -1,5 +1,5 @@
 -- Parts of which an entry of a file has left its directory for another one spell the tree that the call leaves.
-use Rattle.std.proofs.Common.{◌≡◌, ◌≢◌, ℕ, ◌+◌, ◌*◌, ◌<◌, ◌≤◌, cond, true, false, List, slice_get, Option, Some, None, refl, sym, ap, subst, ◌∙◌, arith}
+use Rattle.std.proofs.Common.{◌≡◌, ◌≢◌, ◌+◌, ◌*◌, ◌<◌, ◌≤◌, cond, true, false, List, slice_get, Some, None, refl, ap, subst, ◌∙◌, arith}
 use Rattle.std.specs.Prelude.{is_some}
 use Rattle.std.specs.Cmp.Lexicographic.{nat_list_cmp_total}
 use Rattle.std.specs.FinMap as maps
@@ -19,7 +19,7 @@ use Rattle.ds_tree.specs.WellFormed.{IsTree}
 use Rattle.ds_tree.specs.declared.calls.CallOf.TheVariants.{Rename}
 use Rattle.ds_tree.specs.declared.calls.TreeReply.TheVariants.{Moved}
 use Rattle.ds_image.specs.Objects.{object_of, node_by, entries_of, tree_of}
-use Rattle.ds_image.specs.Parts.{Parts, part_at}
+use Rattle.ds_image.specs.Parts.{Parts}
 use Rattle.ds_image.specs.Readings.{Reads}
 use Rattle.ds_image.specs.Sound.{IsSound, IsNamedRight}
 use Rattle.ds_image.proofs.DirNodes.{dir-rules}

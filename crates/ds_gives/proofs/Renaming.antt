@@ -1,5 +1,5 @@
 -- No refusal holds where an entry can stand under another name: so the call renames it, and the tree keeps the rules.
-use Rattle.std.proofs.Common.{◌≡◌, ◌≢◌, ℕ, ◌*◌, ◌<◌, ◌==◌, ◌&&◌, Bool, true, false, not, nat_le, if◌then◌else◌, List, Option, Some, None, MatchOption, refl, sym, ap, subst, ◌∙◌, inl, inr, eq-eqb, ne_eqb, arith}
+use Rattle.std.proofs.Common.{◌≡◌, ◌≢◌, ℕ, ◌<◌, ◌==◌, ◌&&◌, Bool, true, false, not, nat_le, if◌then◌else◌, List, Option, Some, None, MatchOption, refl, sym, ap, subst, ◌∙◌, inl, inr, eq-eqb, ne_eqb, arith}
 use Rattle.std.specs.Prelude.{is_some}
 use Rattle.std.specs.FinMap as maps
 use Rattle.std.proofs.lemmas.Bool.{cases_Bool}
@@ -10,8 +10,8 @@ use Rattle.ds_base.specs.declared.geometry.Kind.TheVariants.{Sb}
 use Rattle.ds_base.specs.declared.names.Key.{Key}
 use Rattle.ds_tree.proofs.StepKeeps.{step-keeps}
 use Rattle.ds_tree.specs.Counts.{free_of}
-use Rattle.ds_tree.specs.Nodes.{Entries, Node, Dir, FileTree, node_at, birth_at, node_of_key, with_node}
-use Rattle.ds_tree.specs.Steps.{in_dir, entry_node, is_dir, is_full, refusal, refuses_rename, renamed, rooms_with_one_more, Renames, Succeeds, Does}
+use Rattle.ds_tree.specs.Nodes.{Entries, Dir, FileTree, node_at, birth_at, node_of_key, with_node}
+use Rattle.ds_tree.specs.Steps.{in_dir, entry_node, is_dir, is_full, refusal, refuses_rename, rooms_with_one_more, Renames, Succeeds, Does}
 use Rattle.ds_tree.specs.WellFormed.{IsTree}
 use Rattle.ds_tree.specs.declared.calls.CallOf.TheVariants.{Rename}
 use Rattle.ds_tree.specs.declared.calls.TreeReply.TheVariants.{Moved}

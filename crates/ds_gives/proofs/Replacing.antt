@@ -1,9 +1,9 @@
 -- An object that lists other items than before owns them, where the marks follow.
-use Rattle.std.proofs.Common.{◌≡◌, ◌≢◌, ℕ, zero, suc, ◌<◌, ◌⊎◌, inl, inr, Bool, true, false, List, [], ◌∷◌, length, Some, slice_get, slice_set, refl, sym, ap, subst, ◌∙◌, get_or-set_same, get_or-set_other, arith}
+use Rattle.std.proofs.Common.{◌≡◌, ◌≢◌, ℕ, zero, suc, ◌<◌, ◌⊎◌, inl, inr, Bool, List, [], ◌∷◌, length, Some, slice_get, slice_set, sym, ap, subst, ◌∙◌, get_or-set_same, get_or-set_other, arith}
 use Rattle.std.specs.Prelude.{Contains}
-use Rattle.std.proofs.lemmas.Bool.{cases_eq, cases_Bool, false≢true}
+use Rattle.std.proofs.lemmas.Bool.{cases_eq, false≢true}
 use Rattle.ds_image.specs.Owned.{ClearsMarks}
-use Rattle.ds_image.specs.Owns.{Owns, IsAt, list_of, bit}
+use Rattle.ds_image.specs.Owns.{Owns, IsAt, list_of}
 use Rattle.ds_image.proofs.Places.{Contains-from_at, at-from_Contains}
 use Rattle.ds_gives.specs.Replaced.{ReplacesItems, ReplacesMarks, CanReplace, BitsReplaced}
 

@@ -1,6 +1,6 @@
 -- An image in which an entry of a file has left its directory for a free room of another one stands for the tree that the
 -- call leaves.
-use Rattle.std.proofs.Common.{◌≡◌, ◌≢◌, ℕ, ◌+◌, ◌*◌, ◌<◌, Bool, true, false, cond, List, [], ◌∷◌, length, slice_get, slice_set, Some, None, refl, sym, ap, subst, ◌∙◌, length-set, arith}
+use Rattle.std.proofs.Common.{◌≡◌, ◌≢◌, ℕ, ◌+◌, ◌*◌, Bool, true, false, cond, List, [], ◌∷◌, slice_get, slice_set, Some, None, refl, sym, ap, subst, ◌∙◌, length-set, arith}
 use Rattle.std.specs.Prelude.{All}
 use Rattle.std.proofs.lemmas.Bool.{false≢true}
 use Rattle.std.proofs.lemmas.Bool.Decides.{nat_tests}
@@ -41,7 +41,7 @@ use Rattle.ds_changes.proofs.Listed.{listed-in}
 use Rattle.ds_changes.proofs.Spelling.{sub-at}
 use Rattle.ds_changes.proofs.StandsGrown.{two-pairs, two-laid}
 use Rattle.ds_gives.specs.Moving.{ReadyToLeave}
-use Rattle.ds_gives.proofs.Crossing.{crossed, m-listed, moves-crossed, subs-differ}
+use Rattle.ds_gives.proofs.Crossing.{crossed, moves-crossed, subs-differ}
 use Rattle.ds_gives.proofs.Emptied.{room-is_sub, room-is_entry}
 use Rattle.ds_gives.proofs.Moved.{MovesParts}
 use Rattle.ds_gives.proofs.MovedLeaves.{have-room, leaves-moved, moved-sound}

@@ -1,5 +1,5 @@
 -- An image of which a sub-block has an entry under another name stands for the tree that the call leaves.
-use Rattle.std.proofs.Common.{◌≡◌, ◌≢◌, ℕ, ◌*◌, ◌<◌, List, [], ◌∷◌, length, slice_get, slice_set, Option, Some, None, IsSome, refl, sym, ap, subst, ◌∙◌, length-set, get_or, get_or-set_same, get_or-set_other, arith}
+use Rattle.std.proofs.Common.{◌≡◌, ◌≢◌, ℕ, ◌*◌, ◌<◌, List, [], ◌∷◌, length, slice_get, slice_set, Option, Some, None, IsSome, refl, sym, ap, subst, ◌∙◌, get_or, get_or-set_same, get_or-set_other, arith}
 use Rattle.std.specs.Prelude.{All}
 use Rattle.std.proofs.lemmas.List.{set-get_or, set-set}
 use Rattle.std.proofs.lemmas.List.Elements.{All-nil, All-cons}
@@ -15,7 +15,7 @@ use Rattle.ds_dir.specs.declared.sub_block.SubBlock.{SubBlock}
 use Rattle.ds_fd.specs.declared.body.Body.{Body}
 use Rattle.ds_layout.specs.Places.{place_sector}
 use Rattle.ds_layout.specs.declared.places.Place.TheVariants as places
-use Rattle.ds_tree.specs.Nodes.{Dir, Object, FileTree, node_at, birth_at, node_of_key}
+use Rattle.ds_tree.specs.Nodes.{Dir, Object, FileTree, birth_at, node_of_key}
 use Rattle.ds_tree.specs.Steps.{Renames, refusal}
 use Rattle.ds_tree.specs.WellFormed.{IsTree}
 use Rattle.ds_tree.specs.declared.calls.CallOf.TheVariants.{Rename}

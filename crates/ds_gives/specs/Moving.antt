@@ -1,6 +1,5 @@
 -- What a planner has found out of an entry that is to stand under another name.
-use Rattle.std.specs.Prelude.{◌≡◌, ◌≢◌, ℕ, ◌+◌, ◌*◌, true, slice_get, slice_set, Some, None}
-use Rattle.std.specs.FinMap as maps
+use Rattle.std.specs.Prelude.{◌≡◌, ◌≢◌, ℕ, ◌+◌, ◌*◌, true, slice_get, slice_set, Some}
 use Rattle.ds_base.specs.Geometry.{per_cluster}
 use Rattle.ds_base.specs.Names.{IsName}
 use Rattle.ds_base.specs.declared.geometry.Geom.{Geom}
@@ -11,10 +10,9 @@ use Rattle.ds_bitmap.specs.Bits.{Bitmap}
 use Rattle.ds_dir.specs.declared.sub_block.Entry.{Entry}
 use Rattle.ds_dir.specs.declared.sub_block.SubBlock.{SubBlock}
 use Rattle.ds_fd.specs.declared.body.Body.{Body}
-use Rattle.ds_image.specs.Objects.{entries_of}
 use Rattle.ds_image.specs.Parts.{Parts, part_at}
 use Rattle.ds_changes.specs.Beginning.{SetsBit}
-use Rattle.ds_changes.specs.Entering.{subs_in, LacksName, FillsRoom, AddsRooms}
+use Rattle.ds_changes.specs.Entering.{subs_in, LacksName, AddsRooms}
 use Rattle.ds_gives.specs.Leaving.{HasDir, EmptiesRoom}
 
 -- the same object under another name
