@@ -1,5 +1,4 @@
-mod Cuts
-mod FirstLineLaws
-mod FirstListLaws
 mod EdgeLaws
-pub mod PromiseLaws
+mod PromiseLaws
+mod CauseLaws
+mod RunLaws

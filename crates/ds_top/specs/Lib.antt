@@ -1,4 +1,6 @@
+pub mod Commands
 pub mod Outcomes
 pub mod Edges
-pub mod FirstLines
+pub mod Causes
 pub mod Promise
+pub mod Runs

@@ -1,7 +1,7 @@
 //! The program: it replays a scenario that it reads, and writes the report.
 #![tactic(auto)]
 
-mod first_form;
+mod commands;
 mod input;
 mod outcome;
 mod output;
@@ -9,8 +9,8 @@ mod replaying;
 mod running;
 
 use ds_base::{StdSink, StdSource};
-use outcome::Why;
-use running::{Outcome, plain, refused};
+use outcome::{Why, refused};
+use running::plain;
 use std::alloc::AllocError;
 use std::process::ExitCode;
 use std::{env, io};
