@@ -76,8 +76,11 @@ module _ (r : Asked) (seen : SeenValue) (p : Parts) (reads : Reads r.geom (look_
     page-odd past =
         lawful-odd r seen p (body_sector r) known-body
         (λ image t stands agrees.
-        omega (arith, leb-true (items_of r.geom Pb) (pointer_of b page) past,
-        pointer-in_range r.geom (slice_get image) stands.parts r.key.object b stands.reads stands.sound (there-too image t stands agrees) is.kind page below))
+        omega (
+          arith,
+          leb-true (items_of r.geom Pb) (pointer_of b page) past,
+          pointer-in_range r.geom (slice_get image) stands.parts r.key.object b stands.reads stands.sound (there-too image t stands agrees) is.kind page below,
+        ))
 
     module _ (within : pointer_of b page < items_of r.geom Pb) where
       -- the pointer block, which the file's lock protects

@@ -103,15 +103,18 @@ module _ (r : Asked) (seen : SeenValue) (p : Parts) (reads : Reads r.geom (look_
     lawful-block index asked page is_page within =
         let block : ℕ = slice_index page.blocks.items (index % 128) in
         let at : (image : List Sector) (t : FileTree) (stands : StandsFor r.geom image t) → Agrees seen image
-            → slice_get (blocks_by stands.parts b (Some kinds.File)) index ≡ Some block =
-            λ image t stands agrees.
-            page-item (blocks_by stands.parts b (Some kinds.File)) index 0 (omega (arith, file-size image t stands agrees, within))
-            ∙ ap (λ xs. Some (get_or xs (index % 128) 0)) (sym (is_page.right image t stands agrees)) in
+        → slice_get (blocks_by stands.parts b (Some kinds.File)) index ≡ Some block =
+        λ image t stands agrees.
+        page-item (blocks_by stands.parts b (Some kinds.File)) index 0 (omega (arith, file-size image t stands agrees, within))
+        ∙ ap (λ xs. Some (get_or xs (index % 128) 0)) (sym (is_page.right image t stands agrees)) in
         by-test (IsLawfulOr r seen p (IsLawfulReply r seen p)) (nat_le (items_of r.geom Fb) block) (Err (Odd page.at)) (Ok (AtBlock block))
         (λ past. lawful-odd r seen p page.at is_page.known
-        (λ image t stands agrees. omega (arith, leb-true (items_of r.geom Fb) block past,
-        block-in_range r.geom (slice_get image) stands.parts r.key.object b stands.reads stands.sound
-        (there b kinds.File as-found image t stands agrees) is.kind index block (at image t stands agrees))))
+        (λ image t stands agrees. omega (
+          arith,
+          leb-true (items_of r.geom Fb) block past,
+          block-in_range r.geom (slice_get image) stands.parts r.key.object b stands.reads stands.sound
+              (there b kinds.File as-found image t stands agrees) is.kind index block (at image t stands agrees),
+        )))
         (λ inside. lawful-done r seen p (AtBlock block) (leb-false (items_of r.geom Fb) block inside)
         (λ image t stands agrees.
         subst (λ q. Does r.geom t (call_by r.key q) (AtBlock block) t) (sym asked)

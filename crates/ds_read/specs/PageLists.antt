@@ -38,12 +38,12 @@ short_page xs count from small =
     let front : List ℕ = take count xs in
     let len : length front ≤ count = omega (arith, length-take count xs) in
     let same : drop (min count from) front ≡ drop from front = ⊎_elim
-        (λ (past : count < from).
-        drop_of_length-le front (omega arith) ∙ sym (drop_of_length-le front (omega arith)))
-        (λ (within : from ≤ count).
-        let is : min count from ≡ from = omega arith in
-        ap (λ n. drop n front) is)
-        (cases_lt count from) in
+    (λ (past : count < from).
+    drop_of_length-le front (omega arith) ∙ sym (drop_of_length-le front (omega arith)))
+    (λ (within : from ≤ count).
+    let is : min count from ≡ from = omega arith in
+    ap (λ n. drop n front) is)
+    (cases_lt count from) in
     sym (drop-take_to xs (min count from) count) ∙ same ∙ sym (take_all 128 (drop from front) (omega (arith, len, length-drop from front)))
 
 module _ (f : ℕ → List ℕ) where

@@ -1,10 +1,16 @@
 //! The planner of the calls that only read.
 #![tactic(auto)]
 
+#[cfg(test)]
+mod driving;
 mod found;
 mod pages;
-mod reads;
 mod questions;
+mod reads;
+#[cfg(test)]
+mod tests;
+#[cfg(test)]
+mod volumes;
 
-pub use reads::Reads;
 pub use questions::Question;
+pub use reads::Reads;
