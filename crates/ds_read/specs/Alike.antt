@@ -1,6 +1,5 @@
 -- What is decoded of the sectors that a call has seen, in what it has seen and in an image that agrees.
-use Rattle.std.proofs.Common.{◌≡◌, ℕ, ◌<◌, Bool, true, false, nat_le, not, List, Option, Some, None, is_none, refl, sym, ap, subst, ◌∙◌, arith}
-use Rattle.std.specs.Prelude.{slice_get}
+use Rattle.std.proofs.Common.{◌≡◌, ℕ, ◌<◌, true, false, nat_le, List, Option, Some, refl, subst, arith}
 use Rattle.std.proofs.lemmas.Bool.Decides.{nat_tests}
 use Rattle.ds_base.specs.Decoding.{IsDecoded}
 use Rattle.ds_base.specs.Geometry.{items_of}

@@ -1,5 +1,5 @@
 -- What the planner answers, and which locks and sectors it may ask for.
-use Rattle.std.specs.Prelude.{◌≡◌, ◌⊎◌, ℕ, ◌*◌, ◌/◌, ◌%◌, nat_le, if◌then◌else◌, slice_index, Option, Some, Result, Ok, Err}
+use Rattle.std.specs.Prelude.{◌≡◌, ◌⊎◌, ℕ, ◌*◌, ◌/◌, ◌%◌, nat_le, if◌then◌else◌, slice_index, Some, Result, Ok, Err}
 use Rattle.ds_base.specs.Geometry.{items_of}
 use Rattle.ds_base.specs.declared.geometry.Geom.{Geom}
 use Rattle.ds_base.specs.declared.geometry.Kind.TheVariants.{Fb}
@@ -17,7 +17,6 @@ use Rattle.ds_read.specs.Finding.{body_sector, found, file_of}
 use Rattle.ds_read.specs.Pages.{pointer_of, ptr_sector, page_of}
 use Rattle.ds_read.specs.Questions.{Asked, page_by}
 use Rattle.ds_read.specs.declared.found.Found.{Found}
-use Rattle.ds_read.specs.declared.pages.Page.{Page}
 use Rattle.ds_read.specs.declared.questions.Question.{Question}
 use Rattle.ds_read.specs.declared.questions.Question.TheVariants.{Stat, Map, OpenFile, At}
 

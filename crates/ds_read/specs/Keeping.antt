@@ -1,9 +1,9 @@
 -- How the planner keeps the law up to the object of its key.
-use Rattle.std.specs.Prelude.{◌≡◌, ℕ, ◌<◌, ◌≤◌, ◌==◌, Bool, true, false, not, is_none, is_some, nat_le, if◌then◌else◌, List, [], Option, Some, None, IsSome, Result, Ok, Err, slice_get}
-use Rattle.std.proofs.Common.{refl, sym, ap, subst, ◌∙◌, inl, inr, arith}
+use Rattle.std.specs.Prelude.{◌≡◌, ℕ, ◌<◌, ◌≤◌, ◌==◌, Bool, true, false, not, is_none, is_some, nat_le, if◌then◌else◌, List, Option, Some, None, IsSome, Result, Ok, Err, slice_get}
+use Rattle.std.proofs.Common.{refl, sym, ap, subst, ◌∙◌, inl, arith}
 use Rattle.std.proofs.lemmas.Bool.{false≢true, leb-true, leb-false, eqb-true}
-use Rattle.ds_base.specs.Geometry.{IsGeom, items_of}
-use Rattle.ds_base.specs.declared.geometry.Kind.TheVariants.{Fd, Fb}
+use Rattle.ds_base.specs.Geometry.{items_of}
+use Rattle.ds_base.specs.declared.geometry.Kind.TheVariants.{Fd}
 use Rattle.ds_base.specs.declared.names.NodeKind.{NodeKind}
 use Rattle.ds_base.specs.declared.sectors.Sector.{Sector}
 use Rattle.ds_fd.specs.declared.body.Body.{Body}
@@ -14,14 +14,13 @@ use Rattle.ds_tree.specs.Steps.{Does}
 use Rattle.ds_tree.specs.declared.calls.TreeReply.{TreeReply}
 use Rattle.ds_tree.specs.declared.calls.TreeReply.TheVariants.{NoObject}
 use Rattle.ds_image.specs.Asking.{Agrees, Keeps, HasItsBlock}
-use Rattle.ds_image.specs.Objects.{object_of, node_by, tree_of}
+use Rattle.ds_image.specs.Objects.{object_of, node_by}
 use Rattle.ds_image.specs.Parts.{Parts, part_at}
 use Rattle.ds_image.specs.Readings.{Reads}
 use Rattle.ds_image.specs.SeenValues.{SeenValue, has_lock, look_of}
 use Rattle.ds_image.specs.Sound.{StandsFor}
 use Rattle.ds_image.specs.declared.asks.Ask.{Ask}
 use Rattle.ds_image.specs.declared.asks.Ask.TheVariants.{Lock, Read, Odd, Done}
-use Rattle.ds_image.proofs.Sizes.{part_within}
 use Rattle.ds_image.proofs.TreeParts.{object-is}
 use Rattle.ds_read.specs.Alike.{body-alike}
 use Rattle.ds_read.specs.Answering.{and_then, IsNeeded}

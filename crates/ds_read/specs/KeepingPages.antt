@@ -1,6 +1,6 @@
 -- How the planner keeps the law at a page of a file.
-use Rattle.std.specs.Prelude.{◌≡◌, ℕ, ◌-◌, ◌*◌, ◌/◌, ◌<◌, ◌≤◌, Bool, true, false, is_none, is_some, nat_le, if◌then◌else◌, List, [], take, drop, Option, Some, None, IsSome, Result, Ok, Err, slice_get}
-use Rattle.std.proofs.Common.{refl, sym, ap, subst, ◌∙◌, inl, inr, arith}
+use Rattle.std.specs.Prelude.{◌≡◌, ℕ, ◌-◌, ◌*◌, ◌/◌, ◌<◌, Bool, true, false, is_none, is_some, nat_le, if◌then◌else◌, List, [], take, drop, Some, None, IsSome, Result, Ok, Err, slice_get}
+use Rattle.std.proofs.Common.{refl, sym, ap, ◌∙◌, inr, arith}
 use Rattle.std.proofs.lemmas.Bool.{leb-true, leb-false}
 use Rattle.ds_base.specs.Geometry.{items_of, per_cluster}
 use Rattle.ds_base.specs.declared.geometry.Kind.TheVariants.{Fd, Pb}

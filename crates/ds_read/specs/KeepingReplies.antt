@@ -1,15 +1,14 @@
 -- How the planner keeps the law in each answer.
-use Rattle.std.specs.Prelude.{◌≡◌, ℕ, ◌+◌, ◌*◌, ◌/◌, ◌%◌, ◌<◌, ◌≤◌, Bool, true, false, nat_le, if◌then◌else◌, List, length, take, drop, slice_index, Option, Some, None, Result, Ok, Err, slice_get}
+use Rattle.std.specs.Prelude.{◌≡◌, ℕ, ◌*◌, ◌/◌, ◌%◌, ◌<◌, nat_le, List, length, slice_index, Some, Result, Ok, Err, slice_get}
 use Rattle.std.proofs.Common.{refl, sym, ap, subst, ◌∙◌, arith, get_or}
 use Rattle.std.proofs.lemmas.Bool.{leb-true, leb-false}
-use Rattle.std.proofs.lemmas.Option.{slice_get-get_or}
 use Rattle.ds_base.specs.Geometry.{items_of}
 use Rattle.ds_base.specs.declared.geometry.Kind.TheVariants.{Fb}
 use Rattle.ds_base.specs.declared.names.NodeKind.{NodeKind}
 use Rattle.ds_base.specs.declared.names.NodeKind.TheVariants as kinds
 use Rattle.ds_base.specs.declared.sectors.Sector.{Sector}
 use Rattle.ds_fd.specs.declared.body.Body.{Body}
-use Rattle.ds_tree.specs.Nodes.{Entries, Node, Dir, File, Object, FileTree, node_at, birth_at, node_of_key}
+use Rattle.ds_tree.specs.Nodes.{Entries, Dir, File, Object, FileTree, node_at, birth_at, node_of_key}
 use Rattle.ds_tree.specs.Steps.{Does}
 use Rattle.ds_tree.specs.declared.calls.TreeReply.{TreeReply}
 use Rattle.ds_tree.specs.declared.calls.TreeReply.TheVariants.{Info, Blocks, Opened, AtBlock, NoBlock, NotFile}
@@ -25,7 +24,7 @@ use Rattle.ds_read.specs.Answering.{and_then, size_by, block_in, block_at, reply
 use Rattle.ds_read.specs.Doing.{key-node, not-file_map, not-file_open, not-file_at, does-stat, does-open, does-map, does-no_block, does-at}
 use Rattle.ds_read.specs.Finding.{file_by, file_of, found}
 use Rattle.ds_read.specs.Keeping.{IsLawful, IsLawfulOr, IsFound, lawful-then, lawful-done, lawful-odd, lawful-found, by-test, body-there, object-there}
-use Rattle.ds_read.specs.KeepingPages.{IsFile, IsPage, there-too, lawful-page}
+use Rattle.ds_read.specs.KeepingPages.{IsFile, IsPage, lawful-page}
 use Rattle.ds_read.specs.PageLists.{page-item}
 use Rattle.ds_read.specs.Pages.{page_of}
 use Rattle.ds_read.specs.Pointers.{blocks-length, block-in_range}

@@ -1,7 +1,7 @@
 -- The pointer blocks and blocks of a file in parts that agree with one another.
-use Rattle.std.proofs.Common.{◌≡◌, ℕ, ◌+◌, ◌-◌, ◌*◌, ◌/◌, ◌<◌, ◌≤◌, ◌==◌, Bool, true, false, nat_le, List, [], length, take, drop, get_or, Option, Some, None, IsSome, inl, inr, refl, sym, ap, subst, ◌∙◌, length-take-le, arith}
+use Rattle.std.proofs.Common.{◌≡◌, ℕ, ◌+◌, ◌-◌, ◌*◌, ◌/◌, ◌<◌, ◌≤◌, ◌==◌, Bool, true, false, nat_le, List, length, take, drop, get_or, Option, Some, None, IsSome, inl, inr, refl, ap, subst, ◌∙◌, length-take-le, arith}
 use Rattle.std.specs.Prelude.{slice_get, if◌then◌else◌}
-use Rattle.std.proofs.lemmas.Bool.{cases_lt, cases_Bool, false≢true, leb-true, leb-false}
+use Rattle.std.proofs.lemmas.Bool.{cases_Bool, false≢true, leb-true, leb-false}
 use Rattle.std.proofs.lemmas.Bool.Decides.{nat_tests}
 use Rattle.std.proofs.lemmas.List.{get_or-take}
 use Rattle.std.proofs.lemmas.List.Folds.{Any-from_list_any, list_any_at}
@@ -11,23 +11,23 @@ use Rattle.ds_base.specs.Geometry.{items_of}
 use Rattle.ds_base.specs.declared.geometry.Geom.{Geom}
 use Rattle.ds_base.specs.declared.geometry.Kind.TheVariants.{Fd, Pb, Fb}
 use Rattle.ds_base.specs.declared.names.NodeKind.TheVariants as kinds
-use Rattle.ds_fd.specs.Body.{IsBody, most_count}
+use Rattle.ds_fd.specs.Body.{most_count}
 use Rattle.ds_fd.specs.declared.body.Body.{Body}
 use Rattle.ds_ptr.specs.declared.ptr_block.PtrBlock.{PtrBlock}
 use Rattle.ds_tree.specs.Counts.{pointer_blocks}
 use Rattle.ds_image.specs.Guards.{lister_or}
 use Rattle.ds_image.specs.Looks.{Look}
-use Rattle.ds_image.specs.Objects.{addresses_in, ptrs_by, ptrs_of, blocks_of, blocks_by}
+use Rattle.ds_image.specs.Objects.{addresses_in, ptrs_of, blocks_of, blocks_by}
 use Rattle.ds_image.specs.Owns.{IsAt}
 use Rattle.ds_image.specs.Parts.{Parts, part_at}
 use Rattle.ds_image.specs.Readings.{Reads}
-use Rattle.ds_image.specs.Sound.{IsSound, ptr_lists, block_lists}
+use Rattle.ds_image.specs.Sound.{IsSound, ptr_lists}
 use Rattle.ds_image.proofs.Guarding.{lister_found}
 use Rattle.ds_image.proofs.Listed.{ptr_listed_within, block_listed_within}
 use Rattle.ds_image.proofs.Sizes.{part_within, body_is, many_pointers, file_size}
 use Rattle.ds_image.proofs.SoundParts.{list-is}
 use Rattle.ds_read.specs.Pages.{pointer_of}
-use Rattle.ds_read.specs.PageLists.{page-cut_off, page-past}
+use Rattle.ds_read.specs.PageLists.{page-cut_off}
 
 -- a pointer block that is spelled has 128 addresses
 full-by : (g : Geom) (look : Look) (p : Parts) (n : ℕ) (r : Option PtrBlock) → Reads g look p → part_at p.ptrs n ≡ r → IsSome r → length (addresses_in r) ≡ 128

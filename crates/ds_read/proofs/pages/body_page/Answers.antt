@@ -1,4 +1,4 @@
-use Rattle.std.proofs.Common.{◌≡◌, ℕ, ◌*◌, ◌∙◌, List, min, take, drop, ap, arith}
+use Rattle.std.proofs.Common.{◌≡◌, ℕ, ◌*◌, ◌∙◌, List, take, drop, ap, arith}
 use Rattle.std.specs.List.{slice_range}
 use Rattle.ds_read.specs.declared.pages.Page.{Page}
 use Rattle.ds_read.specs.PageLists.{short_page}

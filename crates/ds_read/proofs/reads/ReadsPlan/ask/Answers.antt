@@ -1,6 +1,5 @@
 use Rattle.std.proofs.Common.{◌≡◌, sym, ap, ◌∙◌}
 use Rattle.ds_image.proofs.Seeing.{seen_read}
-use Rattle.ds_image.specs.declared.asks.Ask.{Ask}
 use Rattle.ds_read.specs.Answering.{answers, ask_of}
 use Rattle.ds_read.specs.KeepingReplies.{lawful}
 use Rattle.ds_read.specs.Questions.{Asked}
