@@ -68,7 +68,7 @@ dir_keeps g call dir seen p ask is = record { form = form_of g call dir seen p a
 -- the only lock is that of the directory
 pub dir_allowed : (g : Geom) (slot : ℕ) (call : CallOf Key) (dir : Key) (seen : SeenValue) (p : Parts) (ask : Ask) → Contains (keys_of call) dir
     → DirAsks g call dir.object seen p ask → IsAllowed g slot call p ask
-dir_allowed g slot call dir seen p (asks.Lock object) named is = subst (MayLock g slot call p) (sym is.0) (of_key dir named)
+dir_allowed g slot call dir seen p (asks.Lock object) named is = subst (MayLock g slot call p) (sym is.0) (of_key dir named is.1)
 dir_allowed g slot call dir seen p (asks.Read at) named is = tt
 dir_allowed g slot call dir seen p (asks.Odd at) named is = tt
 dir_allowed g slot call dir seen p (asks.Worn object) named is = tt

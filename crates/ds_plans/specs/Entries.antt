@@ -42,3 +42,8 @@ found_from g seen p b name sub (n ∷ subs) =
 -- the first room with the name in a directory
 abbrev pub found_in : Geom → SeenValue → Parts → Body → List ℕ → Result (Option Found) Ask
 found_in g seen p b name = found_from g seen p b name 0 (subs_of (Some b))
+
+-- these sub-blocks of a directory are known once each was read
+abbrev pub subs_known : Geom → SeenValue → Parts → Body → List ℕ → Result Body Ask
+subs_known g seen p b [] = Ok b
+subs_known g seen p b (n ∷ subs) = after (sub_seen g seen p b n) (λ block. subs_known g seen p b subs)
