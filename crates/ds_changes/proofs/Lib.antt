@@ -1,4 +1,5 @@
 pub mod Bits
+pub mod Bodies
 pub mod Entered
 pub mod EnteredTrees
 pub mod Filled
@@ -10,11 +11,14 @@ pub mod GuardedFills
 pub mod GuardedGrowths
 pub mod Guards
 pub mod Listed
+pub mod Left
 pub mod Makes
+pub mod MarksByCluster
 pub mod Names
 pub mod NewBodies
 pub mod Puts
 pub mod Spelling
 pub mod StandsFilled
 pub mod StandsGrown
+pub mod Targets
 pub mod Rooms
