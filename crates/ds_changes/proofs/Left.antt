@@ -59,14 +59,14 @@ module _ (g : Geom) (p q : Parts) (d o : ℕ) (dir gone : Body) (e : Entry) (sou
   dir-subs : subs_of (part_at p.bodies d) ≡ subs_in dir
   dir-subs = ap subs_of left.directory.there ∙ ap (subs_by dir) left.directory.kind_is
 
-  dir-apart : AreNamesApart (used_rooms p (subs_in dir))
+  pub dir-apart : AreNamesApart (used_rooms p (subs_in dir))
   dir-apart = subst (λ l. AreNamesApart (used_rooms p l)) dir-subs (sound.names d)
 
   dir-apart_after : AreNamesApart (used_rooms q (subs_in dir))
   dir-apart_after = apart-taken e (used_rooms q (subs_in dir)) (used_rooms p (subs_in dir)) left.taken dir-apart
 
   -- the place of the entry in the directory
-  entry-there : (i : ℕ) × (slice_get (used_rooms p (subs_of (part_at p.bodies d))) i ≡ Some e)
+  pub entry-there : (i : ℕ) × (slice_get (used_rooms p (subs_of (part_at p.bodies d))) i ≡ Some e)
   entry-there =
       let at = at-append_right left.taken.front (e ∷ left.taken.back) 0 e refl in
       (length left.taken.front + 0,

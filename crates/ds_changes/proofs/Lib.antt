@@ -12,6 +12,8 @@ pub mod GuardedGrowths
 pub mod Guards
 pub mod Listed
 pub mod Left
+pub mod LeftTrees
+pub mod MapFrames
 pub mod Makes
 pub mod MarksByCluster
 pub mod Names

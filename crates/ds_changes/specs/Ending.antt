@@ -1,10 +1,14 @@
 -- What a planner has found out of an object that is to go, with its one entry.
-use Rattle.std.specs.Prelude.{◌≡◌, ℕ, [], slice_get, slice_set, Some, None}
+use Rattle.std.specs.Prelude.{◌≡◌, ℕ, List, [], slice_get, slice_set, Some, None}
+use Rattle.ds_base.specs.declared.names.Key.{Key}
+use Rattle.ds_base.specs.declared.names.NodeKind.{NodeKind}
 use Rattle.ds_base.specs.declared.names.NodeKind.TheVariants as kinds
 use Rattle.ds_dir.specs.declared.sub_block.Entry.{Entry}
 use Rattle.ds_dir.specs.declared.sub_block.SubBlock.{SubBlock}
 use Rattle.ds_fd.specs.Body.{IsBody}
 use Rattle.ds_fd.specs.declared.body.Body.{Body}
+use Rattle.ds_tree.specs.declared.calls.CallOf.{CallOf}
+use Rattle.ds_tree.specs.declared.calls.CallOf.TheVariants.{Rmdir, Remove}
 use Rattle.ds_image.specs.Objects.{subs_of, used_rooms}
 use Rattle.ds_image.specs.Parts.{Parts, part_at}
 use Rattle.ds_changes.specs.Entering.{subs_in}
@@ -34,3 +38,8 @@ pub record EmptiesRoom (p : Parts) (dir : Body) (n : ℕ) (e : Entry) (after : S
   pub there : part_at p.subs n ≡ Some before
   pub used : slice_get before.rooms room ≡ Some (Some e)
   pub emptied : after.rooms ≡ slice_set before.rooms room None
+
+-- the call that takes away an object of this kind
+abbrev pub remove_call : NodeKind → Key → List ℕ → CallOf Key
+remove_call kinds.Dir dir name = Rmdir dir name
+remove_call kinds.File dir name = Remove dir name
