@@ -62,13 +62,13 @@ module _ (g : Geom) (p q : Parts) (d o : ℕ) (dir gone : Body) (e : Entry) (sou
   old-birth : left.ends.before.birth ≡ e.key.birth
   old-birth = ap (λ (b : Body). b.birth) (sym old-same) ∙ named.birth
 
-  old-kind : left.ends.before.kind ≡ Some e.kind
+  pub old-kind : left.ends.before.kind ≡ Some e.kind
   old-kind = ap (λ (b : Body). b.kind) (sym old-same) ∙ named.kind
 
   taken-entries : entries_of q (subs_in dir) ≡ maps.remove entries e.name
   taken-entries = by_name-taken e (used_rooms q (subs_in dir)) (used_rooms p (subs_in dir)) left.taken (dir-apart g p q d o dir gone e sound tree left)
 
-  dir-is : object_at t d ≡ record { birth = dir.birth; node = Some (Dir entries (4 * dir.count)) }
+  pub dir-is : object_at t d ≡ record { birth = dir.birth; node = Some (Dir entries (4 * dir.count)) }
   dir-is = dir-object p d dir left.directory.there left.directory.kind_is
 
   dir-after : object_of q (Some dir) ≡ record { birth = birth_at t d; node = Some dir-node }
@@ -120,7 +120,7 @@ module _ (g : Geom) (p q : Parts) (d o : ℕ) (dir gone : Body) (e : Entry) (sou
   pub tree-left : tree_of q ≡ left-tree
   tree-left i = record { objects = objects-after i }
 
-  entry-found : maps.get entries e.name ≡ Some e.key.object
+  pub entry-found : maps.get entries e.name ≡ Some e.key.object
   entry-found =
       let there = entry-there g p q d o dir gone e sound tree left in
       let subs : subs_of (part_at p.bodies d) ≡ subs_in dir = ap subs_of left.directory.there ∙ ap (subs_by dir) left.directory.kind_is in
@@ -147,7 +147,7 @@ module _ (g : Geom) (p q : Parts) (d o : ℕ) (dir gone : Body) (e : Entry) (sou
   bare-entries : entries_of p (subs_of (Some left.ends.before)) ≡ maps.empty
   bare-entries = ap by_name left.ends.bare
 
-  node-there : entry_node t entries e.name ≡ node_by p left.ends.before (Some e.kind)
+  pub node-there : entry_node t entries e.name ≡ node_by p left.ends.before (Some e.kind)
   node-there =
       ap (λ r. elim r as (λ _. Option Node) [ None ↦ None | Some object ↦ node_at t object ]) entry-found
       ∙ ap (node_at t) left.ends.named_object ∙ ap (λ (x : Object). x.node) object-there

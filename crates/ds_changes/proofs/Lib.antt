@@ -1,5 +1,6 @@
 pub mod Bits
 pub mod Bodies
+pub mod Emptied
 pub mod Entered
 pub mod EnteredTrees
 pub mod Filled
@@ -10,6 +11,7 @@ pub mod Granting
 pub mod GuardedFills
 pub mod GuardedGrowths
 pub mod Guards
+pub mod Leaving
 pub mod Listed
 pub mod Left
 pub mod LeftTrees
