@@ -1,7 +1,6 @@
 -- A used room of a directory is emptied, and the object that its entry named is no longer in use.
-use Rattle.std.proofs.Common.{◌≡◌, ◌≢◌, ℕ, ◌+◌, ◌*◌, ◌<◌, Bool, true, false, inl, inr, List, [], ◌++◌, length, map, slice_get, slice_set, Option, Some, None, refl, sym, ap, subst, ◌∙◌, get_or-set_same, get_or-set_other, arith}
+use Rattle.std.proofs.Common.{◌≡◌, ◌≢◌, ℕ, ◌<◌, true, false, List, [], ◌++◌, length, map, slice_get, slice_set, Option, Some, None, refl, sym, ap, subst, ◌∙◌, get_or-set_same, get_or-set_other, arith}
 use Rattle.std.specs.Prelude.{IsSome}
-use Rattle.ds_base.specs.Geometry.{per_cluster}
 use Rattle.ds_base.specs.declared.geometry.Geom.{Geom}
 use Rattle.ds_base.specs.declared.geometry.Kind.TheVariants.{Fd}
 use Rattle.ds_base.specs.declared.names.Key.{Key}
@@ -12,7 +11,7 @@ use Rattle.ds_fd.specs.declared.body.Body.{Body}
 use Rattle.ds_image.specs.Looks.{Look}
 use Rattle.ds_image.specs.Objects.{subs_by, ptrs_by, blocks_by, rooms_in, subs_of, ptrs_of, blocks_of, used_rooms}
 use Rattle.ds_image.specs.Owned.{AddsItems}
-use Rattle.ds_image.specs.Owns.{Owns, list_of}
+use Rattle.ds_image.specs.Owns.{Owns}
 use Rattle.ds_image.specs.Parts.{Parts, part_at, bits_in}
 use Rattle.ds_image.specs.Readings.{Reads}
 use Rattle.ds_image.specs.Sound.{IsSound, sub_lists, ptr_lists, block_lists}
@@ -102,7 +101,7 @@ module _ (g : Geom) (look : Look) (p q : Parts) (reads : Reads g look p) (sound 
       let both : Some ready.ends.before ≡ Some dir = sym ready.ends.there ∙ ap (part_at p.bodies) same ∙ ready.directory.there in
       let one : ready.ends.before ≡ dir = cc in
       let bare : used_rooms p (subs_in dir) ≡ [] =
-          ap (used_rooms p) (sym (ap (subs_by dir) ready.directory.kind_is)) ∙ ap (λ b. used_rooms p (subs_of (Some b))) (sym one) ∙ ready.ends.bare in
+      ap (used_rooms p) (sym (ap (subs_by dir) ready.directory.kind_is)) ∙ ap (λ b. used_rooms p (subs_of (Some b))) (sym one) ∙ ready.ends.bare in
       let more = put-length e (used_rooms q (subs_in dir)) (used_rooms p (subs_in dir)) taken in
       omega (arith, ap length bare, more)
 

@@ -1,6 +1,6 @@
 -- No refusal holds where an object and its entry can go: so the call takes them away, and the image stands for what is left.
-use Rattle.std.proofs.Common.{◌≡◌, ◌≢◌, ℕ, ◌+◌, ◌*◌, ◌<◌, Bool, true, false, nat_lt, List, [], length, slice_get, Option, Some, None, MatchOption, refl, sym, ap, subst, ◌∙◌, arith}
-use Rattle.std.specs.Prelude.{is_some, not}
+use Rattle.std.proofs.Common.{◌≡◌, ℕ, ◌*◌, true, false, nat_lt, List, [], slice_get, Some, None, MatchOption, refl, sym, ap, subst, ◌∙◌}
+use Rattle.std.specs.Prelude.{is_some}
 use Rattle.std.specs.Cmp.Lexicographic.{slice_cmp}
 use Rattle.std.specs.FinMap as maps
 use Rattle.std.specs.Ordering.{nat_cmp}
@@ -14,14 +14,14 @@ use Rattle.ds_dir.specs.declared.sub_block.Entry.{Entry}
 use Rattle.ds_fd.specs.declared.body.Body.{Body}
 use Rattle.ds_tree.proofs.StepKeeps.{step-keeps}
 use Rattle.ds_tree.specs.CallNames.{HasNames}
-use Rattle.ds_tree.specs.Nodes.{Entries, Node, Dir, File, Object, FileTree, node_at, birth_at, node_of_key}
+use Rattle.ds_tree.specs.Nodes.{Entries, Dir, Object, FileTree, node_of_key}
 use Rattle.ds_tree.specs.Steps.{is_dir, is_file, has_entries, entry_node, refusal, in_dir, refuses_remove, refuses_rmdir, Removes, Succeeds, Does}
 use Rattle.ds_tree.specs.WellFormed.{IsTree}
 use Rattle.ds_tree.specs.declared.calls.TreeReply.TheVariants.{Gone}
-use Rattle.ds_image.specs.Objects.{subs_by, blocks_by, node_by, subs_of, used_rooms, tree_of, entries_of}
-use Rattle.ds_image.specs.Parts.{Parts, part_at}
+use Rattle.ds_image.specs.Objects.{subs_by, node_by, used_rooms, tree_of, entries_of}
+use Rattle.ds_image.specs.Parts.{Parts}
 use Rattle.ds_image.specs.Readings.{Reads}
-use Rattle.ds_image.specs.Sound.{IsSound, StandsFor}
+use Rattle.ds_image.specs.Sound.{IsSound}
 use Rattle.ds_changes.specs.Ending.{remove_call}
 use Rattle.ds_changes.specs.Entering.{subs_in}
 use Rattle.ds_changes.specs.Making.{Leaves}

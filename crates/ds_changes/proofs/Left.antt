@@ -1,5 +1,5 @@
 -- Parts of which a directory has an entry less, and the object that it named is no longer in use: that they agree.
-use Rattle.std.proofs.Common.{◌≡◌, ◌≢◌, ℕ, ◌+◌, ◌<◌, Bool, true, false, inl, inr, List, [], ◌∷◌, length, map, get_or, slice_get, slice_set, Option, Some, None, IsSome, is_some, refl, sym, ap, subst, ◌∙◌, length-set, get_or-set_same, get_or-set_other, arith}
+use Rattle.std.proofs.Common.{◌≡◌, ◌≢◌, ℕ, ◌+◌, ◌<◌, false, inl, inr, [], ◌∷◌, length, map, get_or, slice_get, slice_set, Some, None, IsSome, is_some, refl, sym, ap, subst, ◌∙◌, get_or-set_same, get_or-set_other}
 use Rattle.std.specs.Prelude.{All}
 use Rattle.std.specs.FinMap as maps
 use Rattle.std.proofs.lemmas.Bool.{cases_eq}
@@ -7,7 +7,6 @@ use Rattle.std.proofs.lemmas.List.{map-set}
 use Rattle.std.proofs.lemmas.List.Elements.{All-nil}
 use Rattle.ds_base.specs.declared.geometry.Geom.{Geom}
 use Rattle.ds_base.specs.declared.geometry.Kind.{Kind}
-use Rattle.ds_base.specs.declared.names.NodeKind.TheVariants as kinds
 use Rattle.ds_dir.specs.declared.sub_block.Entry.{Entry}
 use Rattle.ds_fd.specs.declared.body.Body.{Body}
 use Rattle.ds_tree.specs.WellFormed.{IsTree, Names}
@@ -20,7 +19,7 @@ use Rattle.ds_image.proofs.EntryNames.{find-at, get-entries}
 use Rattle.ds_image.proofs.NamesApart.{apart-none}
 use Rattle.ds_image.proofs.Places.{at-append_right}
 use Rattle.ds_image.proofs.Sizes.{part_within}
-use Rattle.ds_image.proofs.SoundParts.{all-at, all-from_at, sound-from, objects-of}
+use Rattle.ds_image.proofs.SoundParts.{all-from_at, sound-from, objects-of}
 use Rattle.ds_image.proofs.TreeParts.{name-from_entry}
 use Rattle.ds_changes.specs.Ending.{Ends, IsDirectory}
 use Rattle.ds_changes.specs.Entering.{subs_in}
@@ -68,10 +67,11 @@ module _ (g : Geom) (p q : Parts) (d o : ℕ) (dir gone : Body) (e : Entry) (sou
   -- the place of the entry in the directory
   pub entry-there : (i : ℕ) × (slice_get (used_rooms p (subs_of (part_at p.bodies d))) i ≡ Some e)
   entry-there =
-      let at = at-append_right left.taken.front (e ∷ left.taken.back) 0 e refl in
-      (length left.taken.front + 0,
+      let at = at-append_right left.taken.front (e ∷ left.taken.back) 0 e refl in (
+        length left.taken.front + 0,
         ap (λ l. slice_get (used_rooms p l) (length left.taken.front + 0)) dir-subs
-        ∙ ap (λ l. slice_get l (length left.taken.front + 0)) left.taken.put_in ∙ at)
+            ∙ ap (λ l. slice_get l (length left.taken.front + 0)) left.taken.put_in ∙ at,
+      )
 
   -- no other entry names the object
   other-entry : (k i : ℕ) (x : Entry) → k ≢ d → slice_get (used_rooms p (subs_of (part_at p.bodies k))) i ≡ Some x → x.key.object ≢ o

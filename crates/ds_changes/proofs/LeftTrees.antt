@@ -1,37 +1,23 @@
 -- The tree of parts of which a directory has an entry less, and the object that it named is no longer in use.
-use Rattle.std.proofs.Common.{◌≡◌, ◌≢◌, ℕ, ◌+◌, ◌*◌, ◌<◌, ◌==◌, Bool, true, false, nat_lt, if◌then◌else◌, List, [], length, map, get_or, slice_get, slice_set, Option, Some, None, MatchOption, inl, inr, refl, sym, ap, subst, ◌∙◌, length-set, get_or-set_same, get_or-set_other, arith}
-use Rattle.std.specs.Prelude.{is_some, not}
-use Rattle.std.specs.Cmp.Lexicographic.{slice_cmp}
+use Rattle.std.proofs.Common.{◌≡◌, ℕ, ◌*◌, ◌<◌, length, map, slice_get, Option, Some, None, inl, inr, sym, ap, ◌∙◌, length-set, get_or-set_same, get_or-set_other, arith}
 use Rattle.std.specs.FinMap as maps
-use Rattle.std.specs.Ordering.{nat_cmp}
 use Rattle.std.proofs.lemmas.Bool.{cases_eq}
 use Rattle.std.proofs.lemmas.List.{ext_get_or, get_or-map, length-map}
-use Rattle.ds_base.specs.Names.{IsName}
 use Rattle.ds_base.specs.declared.geometry.Geom.{Geom}
 use Rattle.ds_base.specs.declared.names.Key.{Key}
-use Rattle.ds_base.specs.declared.names.NodeKind.{NodeKind}
-use Rattle.ds_base.specs.declared.names.NodeKind.TheVariants as kinds
-use Rattle.ds_base.specs.declared.sectors.Sector.{Sector}
 use Rattle.ds_dir.specs.declared.sub_block.Entry.{Entry}
 use Rattle.ds_fd.specs.declared.body.Body.{Body}
-use Rattle.ds_tree.proofs.StepKeeps.{step-keeps}
-use Rattle.ds_tree.specs.CallNames.{HasNames}
-use Rattle.ds_tree.specs.Nodes.{Entries, Node, Dir, File, Object, FileTree, unborn, object_at, node_at, birth_at, node_of_key, with_object, with_node}
-use Rattle.ds_tree.specs.Steps.{is_dir, is_file, has_entries, entry_node, refusal, in_dir, refuses_remove, refuses_rmdir, Removes, Succeeds, Does}
+use Rattle.ds_tree.specs.Nodes.{Entries, Node, Dir, Object, FileTree, unborn, object_at, node_at, birth_at, with_object, with_node}
+use Rattle.ds_tree.specs.Steps.{entry_node, Removes}
 use Rattle.ds_tree.specs.WellFormed.{IsTree}
-use Rattle.ds_tree.specs.declared.calls.TreeReply.TheVariants.{Gone}
-use Rattle.ds_image.specs.Objects.{subs_by, blocks_by, node_by, subs_of, used_rooms, object_of, tree_of, entries_of}
+use Rattle.ds_image.specs.Objects.{subs_by, node_by, subs_of, used_rooms, object_of, tree_of, entries_of}
 use Rattle.ds_image.specs.Parts.{Parts, part_at}
-use Rattle.ds_image.specs.Readings.{Reads}
-use Rattle.ds_image.specs.Sound.{IsSound, IsNamedRight, StandsFor}
+use Rattle.ds_image.specs.Sound.{IsSound, IsNamedRight}
 use Rattle.ds_image.proofs.EntryNames.{find-at, get-entries}
 use Rattle.ds_image.proofs.TreeParts.{object-is, objects-are}
-use Rattle.ds_changes.specs.Ending.{remove_call}
 use Rattle.ds_changes.specs.Entering.{subs_in}
-use Rattle.ds_changes.specs.Making.{Leaves}
 use Rattle.ds_changes.proofs.EnteredTrees.{dir-object}
-use Rattle.ds_changes.proofs.Granting.{key-node}
-use Rattle.ds_changes.proofs.Left.{LeavesParts, o-within, at-gone, at-other, dir-apart, entry-there, left-sound}
+use Rattle.ds_changes.proofs.Left.{LeavesParts, at-gone, at-other, dir-apart, entry-there}
 use Rattle.ds_changes.proofs.Names.{by_name, by_name-taken}
 use Rattle.ds_changes.proofs.NewBodies.{object-same}
 

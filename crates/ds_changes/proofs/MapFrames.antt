@@ -1,8 +1,8 @@
 -- What a volume spells after the bitmaps of some clusters of a kind were written, one after another.
-use Rattle.std.proofs.Common.{◌≡◌, ℕ, ◌<◌, List, [], ◌∷◌, length, slice_get, slice_set, Option, Some, refl, sym, ap, subst, ◌∙◌, length-set, arith}
+use Rattle.std.proofs.Common.{◌≡◌, ℕ, List, [], ◌∷◌, length, slice_get, slice_set, Option, Some, refl, sym, ap, subst, ◌∙◌, length-set}
 use Rattle.std.specs.Prelude.{All}
 use Rattle.std.proofs.lemmas.List.Elements.{All-head, All-tail}
-use Rattle.ds_base.specs.Geometry.{IsGeom, clusters_of}
+use Rattle.ds_base.specs.Geometry.{IsGeom}
 use Rattle.ds_base.specs.declared.geometry.Geom.{Geom}
 use Rattle.ds_base.specs.declared.geometry.Kind.{Kind}
 use Rattle.ds_base.specs.declared.geometry.Kind.TheVariants.{Fd, Sb, Pb, Fb}
@@ -44,7 +44,7 @@ reads-maps g image p kind (w ∷ writes) is all reads =
     let maps : List (Option Bitmap) = slice_set (maps_of p kind) w.cluster (Some w.map) in
     let one = reads-map g image p kind w.cluster w.map w.sector is new.within new.in_image new.bits new.spells reads in
     let rest : All (IsNewMap g kind (length image')) writes =
-        subst (λ count. All (IsNewMap g kind count) writes) (sym (length-set image at w.sector)) (All-tail (IsNewMap g kind (length image)) w writes all) in
+    subst (λ count. All (IsNewMap g kind count) writes) (sym (length-set image at w.sector)) (All-tail (IsNewMap g kind (length image)) w writes all) in
     subst (Reads g (slice_get (laid_over image' (map_pairs g kind writes))))
     (with-with p kind maps (put_maps (maps_of (with_maps p kind maps) kind) writes) ∙ ap (λ ms. with_maps p kind (put_maps ms writes)) (maps-of_with p kind maps))
     (reads-maps g image' (with_maps p kind maps) kind writes is rest one)

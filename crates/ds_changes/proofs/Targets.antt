@@ -1,6 +1,6 @@
 -- The sectors that are written to make an object are metadata and stand in their order.
-use Rattle.std.proofs.Common.{◌≡◌, ℕ, zero, suc, ◌+◌, ◌<◌, Bool, true, false, List, [], ◌∷◌, length, refl, sym, ap, subst, ◌∙◌, arith}
-use Rattle.std.specs.Prelude.{All, slice_index}
+use Rattle.std.proofs.Common.{◌≡◌, ℕ, zero, suc, ◌+◌, ◌<◌, Bool, true, false, List, [], ◌∷◌, refl, sym, subst, arith}
+use Rattle.std.specs.Prelude.{slice_index}
 use Rattle.std.specs.List.Sorted.{IsStrictlyIncreasing}
 use Rattle.std.proofs.lemmas.List.Elements.{All-nil, All-cons}
 use Rattle.ds_base.specs.Geometry.{clusters_of, items_of}
@@ -13,7 +13,7 @@ use Rattle.ds_layout.specs.declared.places.Place.TheVariants as places
 use Rattle.ds_image.specs.Asking.{AreTargets, targets_of}
 use Rattle.ds_image.specs.Metadata.{IsMetadata}
 use Rattle.ds_changes.proofs.StandsFilled.{filled-pairs}
-use Rattle.ds_changes.proofs.StandsGrown.{two-pairs, grown-pairs}
+use Rattle.ds_changes.proofs.StandsGrown.{grown-pairs}
 
 -- Numbers that rise
 
