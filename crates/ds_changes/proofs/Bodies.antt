@@ -51,6 +51,15 @@ below-set limit xs i n small within below k = elim (cases_eq k i) [
   | inr other ↦ subst (λ x. x < limit) (sym (get_or-set_other xs i k n 0 other)) (below k)
 ]
 
+-- behind one address more the others are zero still
+rest-set : (addresses : List ℕ) (count n : ℕ) → drop count addresses ≡ replicate (96 - count) 0
+    → drop (count + 1) (slice_set addresses count n) ≡ replicate (96 - (count + 1)) 0
+rest-set addresses count n before =
+    let less : 96 - count - 1 ≡ 96 - (count + 1) = omega arith in
+    let same : drop (count + 1) (slice_set addresses count n) ≡ drop 1 (drop count addresses) =
+        drop-set-lt (count + 1) addresses count n (omega arith) ∙ sym (drop-drop 1 count addresses) in
+    same ∙ ap (drop 1) before ∙ drop-replicate 1 (96 - count) 0 ∙ ap (λ k. replicate k 0) less
+
 -- such a body is one, where there was an address left
 pub grown-is_body : (b dir : Body) (n : ℕ) → IsBody dir → dir.kind ≡ Some kinds.Dir → dir.count < 96 → n < 2 ^ 32 → IsGrownBody b dir n → IsBody b
 unfolding zeros
@@ -75,10 +84,6 @@ grown-is_body b dir n body dir_is room small is =
         rest_is_zero =
             let before : drop dir.count dir.addresses ≡ replicate (96 - dir.count) 0 = subst (λ k. drop (addresses_used k dir.count) dir.addresses ≡ replicate (96 - addresses_used k dir.count) 0) dir_is body.ranges.rest_is_zero in
             let used : addresses_used b.kind b.count ≡ dir.count + 1 = ap (λ k. addresses_used k b.count) kind_is ∙ is.count in
-            let less : 96 - dir.count - 1 ≡ 96 - (dir.count + 1) = omega arith in
-            ap (λ k. drop k b.addresses) used ∙ ap (drop (dir.count + 1)) is.addresses
-            ∙ drop-set-lt (dir.count + 1) dir.addresses dir.count n (omega arith)
-            ∙ sym (drop-drop 1 dir.count dir.addresses) ∙ ap (drop 1) before ∙ drop-replicate 1 (96 - dir.count) 0
-            ∙ ap (λ k. replicate k 0) less ∙ ap (λ k. zeros (96 - k)) (sym used);
+            subst (λ k. drop k b.addresses ≡ replicate (96 - k) 0) (sym used) (subst (λ l. drop (dir.count + 1) l ≡ replicate (96 - (dir.count + 1)) 0) (sym is.addresses) (rest-set dir.addresses dir.count n before));
       };
     }

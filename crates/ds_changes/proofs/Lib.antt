@@ -22,6 +22,8 @@ pub mod Names
 pub mod NewBodies
 pub mod Puts
 pub mod Spelling
+pub mod RightChanges
+pub mod StandsEmptied
 pub mod StandsFilled
 pub mod StandsGrown
 pub mod Targets
