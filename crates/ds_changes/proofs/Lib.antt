@@ -21,6 +21,7 @@ pub mod MarksByCluster
 pub mod Names
 pub mod NewBodies
 pub mod Puts
+pub mod Renamed
 pub mod Spelling
 pub mod RightChanges
 pub mod StandsEmptied

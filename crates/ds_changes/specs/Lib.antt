@@ -6,3 +6,4 @@ pub mod Entering
 pub mod Guarded
 pub mod Making
 pub mod Puts
+pub mod Renaming
