@@ -10,8 +10,10 @@ pub mod NamedRooms
 pub mod NamingParents
 pub mod NoBad
 pub mod NoFinds
+pub mod OneAnswer
 pub mod Pending
 pub mod Reading
+pub mod RisingLists
 pub mod Rows
 pub mod TreeRooms
 pub mod VolumeInfo

@@ -1,5 +1,5 @@
 -- The used objects that aren't reached, as a row.
-use Rattle.std.proofs.Common.{◌≡◌, ℕ, zero, suc, ◌+◌, ◌<◌, ◌↔◌, Bool, true, false, not, ◌&&◌, List, [], ◌∷◌, ◌++◌, length, map, filter, Option, None, slice_index_or, refl, sym, ap, ◌∙◌, subst, inl, inr, arith}
+use Rattle.std.proofs.Common.{◌≡◌, ℕ, zero, suc, ◌+◌, ◌<◌, Bool, true, false, not, ◌&&◌, List, [], ◌∷◌, ◌++◌, length, map, filter, Option, slice_index_or, refl, sym, ap, ◌∙◌, subst, inl, inr, arith}
 use Rattle.std.specs.Prelude.{Contains}
 use Rattle.std.specs.List.{flat_map, range_with_len}
 use Rattle.std.specs.List.Sorted.{IsStrictlyIncreasing}
@@ -11,14 +11,13 @@ use Rattle.std.proofs.lemmas.List.Kept.{IsStrictlyIncreasing-filter}
 use Rattle.ds_base.specs.Geometry.{items_of}
 use Rattle.ds_base.specs.declared.geometry.Geom.{Geom}
 use Rattle.ds_base.specs.declared.geometry.Kind.TheVariants.{Fd}
-use Rattle.ds_tree.specs.WellFormed.{Reached}
 use Rattle.ds_image.specs.Objects.{is_used, tree_of}
-use Rattle.ds_image.specs.Parents.{LeadsToRoot, AreReached}
+use Rattle.ds_image.specs.Parents.{AreReached}
 use Rattle.ds_image.specs.Parts.{Parts, part_at}
 use Rattle.ds_image.proofs.ReachedParents.{leads-iff_reached}
 use Rattle.ds_check.specs.declared.findings.Find.{Find}
 use Rattle.ds_check.specs.declared.findings.Find.TheVariants.{Lost}
-use Rattle.ds_check.specs.Findings.{AreLost, IsLost}
+use Rattle.ds_check.specs.Findings.{AreLost}
 use Rattle.ds_check.specs.Lost.{is_unreached, unreached_at, AreNamers}
 use Rattle.ds_check.specs.Objects.{naming_stage}
 use Rattle.ds_check.specs.Rows.{find_if, row}

@@ -1,5 +1,5 @@
 -- Where entries and names have no findings, the directory that names an object is its parent.
-use Rattle.std.proofs.Common.{◌≡◌, ◌≢◌, ℕ, zero, suc, ◌+◌, ◌<◌, ◌≤◌, cond, Bool, true, false, eqb, not, ◌&&◌, List, [], ◌∷◌, ◌++◌, length, take, Option, None, Some, slice_get, slice_index_or, refl, sym, ap, ◌∙◌, subst, inl, inr, arith}
+use Rattle.std.proofs.Common.{◌≡◌, ◌≢◌, ℕ, zero, suc, ◌+◌, ◌<◌, ◌≤◌, cond, Bool, true, false, eqb, not, ◌&&◌, List, [], ◌++◌, length, take, Option, None, Some, slice_get, slice_index_or, refl, sym, ap, ◌∙◌, inl, inr, arith}
 use Rattle.std.specs.Prelude.{if◌then◌else◌, ◌==◌}
 use Rattle.std.specs.List.{list_any}
 use Rattle.std.proofs.lemmas.Bool.{cases_Bool, cases_eq, cases_lt, false≢true, eqb-true, ne_eqb}
@@ -23,7 +23,7 @@ use Rattle.ds_check.specs.declared.findings.Find.TheVariants.{Dangling, Again}
 use Rattle.ds_check.specs.declared.findings.Find.TheVariants as finds
 use Rattle.ds_check.specs.Naming.{dangling_room, dangling_in, repeated_room, repeated_in, misnamed_at}
 use Rattle.ds_check.specs.Objects.{same_kind, is_body_of, is_dangling, has_name, is_named_in, named_in, names_of, wanted_names, rooms_at, dangling, repeated, misnamed, naming_stage}
-use Rattle.ds_check.proofs.EntryRooms.{found_in, find-first, room-found, room-counts, given-counted}
+use Rattle.ds_check.proofs.EntryRooms.{find-first, room-found, room-counts, given-counted}
 use Rattle.ds_check.proofs.NamedRooms.{named_below, named-more}
 use Rattle.ds_check.proofs.NoFinds.{both-none, not-found, row-none}
 use Rattle.ds_check.proofs.TreeRooms.{name-found}

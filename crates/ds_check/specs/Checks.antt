@@ -1,5 +1,5 @@
 -- What a check of sectors says.
-use Rattle.std.specs.Prelude.{ℕ, List, ⊤}
+use Rattle.std.specs.Prelude.{◌≡◌, ◌⊎◌, ℕ, List, Result, Ok, Err, ⊤}
 use Rattle.ds_base.specs.declared.geometry.Geom.{Geom}
 use Rattle.ds_base.specs.declared.sectors.Sector.{Sector}
 use Rattle.ds_check.specs.declared.checking.CheckFault.{CheckFault}
@@ -19,3 +19,13 @@ pub record AreFindingsOf (sectors : List Sector) (finds : List Find) : Type 0 wh
 abbrev pub IsCheckFault : List Sector → CheckFault → Type 0
 IsCheckFault sectors NoMemory = ⊤
 IsCheckFault sectors (BadImage at) = IsBadImage sectors at
+
+-- the answer for sectors; want of memory is none
+abbrev pub IsCheckAnswer : List Sector → Result (List Find) CheckFault → Type 0
+IsCheckAnswer sectors (Ok finds) = AreFindingsOf sectors finds
+IsCheckAnswer sectors (Err (BadImage at)) = IsBadImage sectors at
+IsCheckAnswer sectors (Err NoMemory) = ⊥
+
+-- a fact of what was answered, which yields to want of memory alone
+abbrev pub OrNoMemory : Result (List Find) CheckFault → Type 0 → Type 0
+OrNoMemory result P = (result ≡ Err NoMemory) ⊎ P

@@ -1,9 +1,11 @@
 //! The check of sectors.
-ghost use Rattle.std.specs.Prelude.{◌≡◌, [], ◌∷◌, OnOk, IfOk, IfErr, length};
+ghost use Rattle.std.specs.Prelude.{◌≡◌, List, [], ◌∷◌, Result, OnOk, IfOk, IfErr, length};
 ghost use Rattle.ds_base.specs.Geometry.{IsGeom, items_of};
 ghost use Rattle.ds_image.specs.BadSectors.{HasNoBad};
 ghost use Rattle.ds_layout.specs.Places.{total_of};
-ghost use Rattle.ds_check.specs.Checks.{AreFindingsOf, IsCheckFault};
+ghost use Rattle.ds_check.specs.Checks.{AreFindingsOf, IsCheckFault, IsCheckAnswer, OrNoMemory};
+ghost use Rattle.ds_check.specs.declared.checking.CheckFault.{CheckFault};
+ghost use Rattle.ds_check.specs.declared.findings.Find.{Find};
 ghost use Rattle.ds_check.specs.Findings.{found_in, AreFindings, AreFoundBehind, AreFoundIn, AreFoundOrLost};
 ghost use Rattle.ds_check.specs.Objects.{metadata_stage, addresses_stage, sharing_stage, marking_stage, naming_stage};
 ghost use Rattle.ds_check.specs.Rows.{first_found};
@@ -34,8 +36,17 @@ pub enum CheckFault {
     BadImage { sector: SectorNo },
 }
 
-/// What is at odds in the sectors of a volume: the findings of the first stage that has any.
+/// What is at odds in the sectors of a volume: the findings of the first stage that has any, which are the only ones.
 pub fn check(alloc: Global, sectors: &[Sector]) -> Result<Report, CheckFault>
+    ensures findings { IfOk result (AreFindingsOf sectors.now) }
+    ensures fault { IfErr result (IsCheckFault sectors.now) }
+    ensures only { (answer : Result (List Find) CheckFault) → IsCheckAnswer sectors.now answer
+        → OrNoMemory result (result ≡ answer) }
+{
+    checked(alloc, sectors)
+}
+
+fn checked(alloc: Global, sectors: &[Sector]) -> Result<Report, CheckFault>
     ensures findings { IfOk result (AreFindingsOf sectors.now) }
     ensures fault { IfErr result (IsCheckFault sectors.now) }
 {
