@@ -1,7 +1,10 @@
-//! The program: it replays a scenario that it reads, and writes the report.
+//! The program: it replays scenarios, formats volumes, and checks images.
 #![tactic(auto)]
 
+mod checking;
 mod commands;
+mod formatting;
+mod image_input;
 mod input;
 mod outcome;
 mod output;
