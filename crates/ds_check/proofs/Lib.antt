@@ -1,3 +1,8 @@
+pub mod CleanAddresses
+pub mod CleanItems
+pub mod CleanMetadata
+pub mod CleanNames
+pub mod CleanTrees
 pub mod EntryRooms
 pub mod FirstFound
 pub mod ItemMarks
@@ -15,5 +20,6 @@ pub mod Pending
 pub mod Reading
 pub mod RisingLists
 pub mod Rows
+pub mod SpelledPointers
 pub mod TreeRooms
 pub mod VolumeInfo

@@ -47,7 +47,7 @@ second_false true b none is = none
 second_false false b none is = absurd (cc)
 
 -- no kind has findings where all have none
-each_kind : (each : Kind → List Find) (kind : Kind) → row_of_kinds each ≡ [] → each kind ≡ []
+pub each_kind : (each : Kind → List Find) (kind : Kind) → row_of_kinds each ≡ [] → each kind ≡ []
 each_kind each Fd none = (both-none (each Fd) _ none).0
 each_kind each Sb none = (both-none (each Sb) _ (both-none (each Fd) _ none).1).0
 each_kind each Pb none = (both-none (each Pb) _ (both-none (each Sb) _ (both-none (each Fd) _ none).1).1).0

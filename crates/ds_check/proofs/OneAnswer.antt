@@ -30,12 +30,11 @@ use Rattle.ds_check.proofs.RisingLists.{increasing-same}
 -- the first sector spells one volume
 pub volume-once : (sectors : List Sector) (g h : Geom) (a b : List ℕ) → SpellsVolume sectors g a → SpellsVolume sectors h b → (g ≡ h) × (a ≡ b)
 volume-once sectors g h a b one two =
-    let here : slice_get sectors 0 ≡ slice_get sectors 0 = refl in
     let same : one.1.0 ≡ two.1.0 = cc (one.1.1, two.1.1) in
     let bytes : vol_bytes g a ≡ vol_bytes h b = sym one.1.2 ∙ ap (λ (s : Sector). s.bytes) same ∙ two.1.2 in
     vol_same g h a b one.0 two.0 bytes
 
--- and has one list of findings in front of its logical image
+-- and those that control the volume spell one thing
 controls-once : (g : Geom) (sectors : List Sector) (c d : Controls) → ReadsControls g sectors c → ReadsControls g sectors d → c ≡ d
 controls-once g sectors c d r s =
     let volume = decoded_same c.volume d.volume (SpellsId g (slice_get sectors)) r.volume s.volume in

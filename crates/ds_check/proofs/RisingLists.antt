@@ -21,7 +21,7 @@ in-rest x y xs (suc k, within, at) other = (k, omega (arith, within), at)
 in-more : (x y : ℕ) (xs : List ℕ) → Contains xs y → Contains (x ∷ xs) y
 in-more x y xs has = (suc has.0, omega (arith, has.1), has.2)
 
-in-none : (y : ℕ) → Contains [] y → ⊥
+pub in-none : (y : ℕ) → Contains [] y → ⊥
 in-none y has = omega (arith, has.1)
 
 first-in : (x : ℕ) (xs : List ℕ) → Contains (x ∷ xs) x
