@@ -1,6 +1,7 @@
 -- Which outcome an image causes, and that it causes no other.
 use Rattle.std.proofs.Common.{◌≡◌, ◌≢◌, ℕ, suc, ◌==◌, ◌≤◌, ◌<◌, ◌⊎◌, ⊎_elim, inl, inr, List, [], ◌∷◌, length, refl, sym, ap, subst, ◌∙◌, arith, cond, Option, Some, None}
-use Rattle.std.specs.Prelude.{Result, Ok, Err, IfSome}
+use Rattle.std.specs.Prelude.{Result, Ok, Err, IfSome, slice_get}
+use Rattle.ds_layout.specs.Volume.{IsVol, vol_bytes}
 use Rattle.ds_base.specs.Outside.{HasRisen}
 use Rattle.ds_base.specs.declared.sectors.Sector.{Sector}
 use Rattle.ds_world.specs.LogValues.{LogValue}
@@ -8,17 +9,18 @@ use Rattle.ds_script.specs.declared.faults.What.TheVariants.{Bytes}
 use Rattle.ds_check.specs.declared.findings.Find.{Find}
 use Rattle.ds_check.specs.declared.checking.CheckFault.{CheckFault}
 use Rattle.ds_check.specs.declared.checking.CheckFault.TheVariants as check_faults
-use Rattle.ds_check.specs.Checks.{AreFindingsOf, IsCheckAnswer, OrNoMemory}
+use Rattle.ds_check.specs.Checks.{AreFindingsOf, IsCheckAnswer, IsCheckFault, OrNoMemory, VolumeStands}
 use Rattle.ds_check.specs.Texts.{report_text}
 use Rattle.ds_check.specs.Volumes.{IsBadImage}
-use Rattle.ds_top.specs.declared.commands.Command.TheVariants.{Check}
+use Rattle.ds_top.specs.declared.commands.Command.TheVariants.{Check, Tree}
 use Rattle.ds_top.specs.declared.outcome.Why.{Why}
 use Rattle.ds_top.specs.declared.outcome.Why.TheVariants.{Done, TooLarge, BadImage, BadWords, ReadFault, Memory, Findings}
 use Rattle.ds_top.specs.Causes.{CausesCheck, IsOfImage, IsFree, OrFree, IsWritten}
 use Rattle.ds_top.specs.Edges.{IsReadWhole}
-use Rattle.ds_top.specs.Images.{IsImage, CausesImage, HasBytesBehind, HasFindings, most_image_bytes, why_of_finds}
+use Rattle.ds_top.specs.Images.{IsImage, IsListing, CausesImage, HasBytesBehind, HasFindings, most_image_bytes, why_of_finds}
+use Rattle.ds_top.specs.Outcomes.{why_of_check}
 use Rattle.ds_top.specs.Promise.{OfInput, IsRefusal}
-use Rattle.ds_top.specs.Runs.{IsCaused, IsMade, IsRefused, IsCausedByImage, IsMadeOfImage, IsRefusedOfImage, AreFound, OfSectors, TellsFindings}
+use Rattle.ds_top.specs.Runs.{IsCaused, IsMade, IsRefused, IsCausedByImage, IsMadeOfImage, IsRefusedOfImage, AreFound, OfSectors, TellsFindings, TellsTree, StandVolume}
 use Rattle.ds_top.proofs.ImageLaws.{same_image}
 use Rattle.ds_top.proofs.RunLaws.{at_end, read_to_end}
 
@@ -80,10 +82,11 @@ finds_only sectors left_over finds _ none only h = absurd h
 
 -- sectors without bytes behind them, and their findings
 pub are_found : (sectors : List Sector) (left_over : ℕ) (finds : List Find) → left_over ≡ 0 → AreFindingsOf sectors finds → IsOnlyCheck sectors (ok finds)
-    → AreFound sectors left_over finds
-are_found sectors left_over finds none h only = record {
+    → (finds ≡ [] → VolumeStands sectors) → AreFound sectors left_over finds
+are_found sectors left_over finds none h only sound = record {
   none_behind = none;
   findings = h;
+  sound = sound;
   caused = record { cause = inr (finds_cause sectors left_over finds none h); only = λ other h. finds_only sectors left_over finds other none only h };
 }
 
@@ -134,22 +137,25 @@ memory_refused_image sectors left_over = record {
   read = λ e. absurd (cc);
 }
 
--- a number of findings tells how a run ends that wrote them
-pub why_counted : (finds : List Find) (count : ℕ) → count ≡ length finds → cond (count == 0) Done (Findings count) ≡ why_of_finds finds
-why_counted [] count counted = ap (λ n. cond (n == 0) Done (Findings n)) counted
-why_counted (first ∷ more) count counted = ap (λ n. cond (n == 0) Done (Findings n)) counted
+-- sectors that weren't checked
+pub check_refused : (sectors : List Sector) (left_over : ℕ) (fault : CheckFault) → IsCheckFault sectors fault → IsOnlyCheck sectors (err fault)
+    → IsRefusedOfImage sectors left_over (why_of_check fault)
+check_refused sectors left_over (check_faults.BadImage at) h only = bad_refused sectors left_over at h only
+check_refused sectors left_over check_faults.NoMemory h only = memory_refused_image sectors left_over
 
+-- a run that wrote findings, or that there are none, wrote its output
 finds_written : (finds : List Find) → IsWritten (why_of_finds finds)
 finds_written [] = tt
 finds_written (first ∷ more) = tt
 
 -- the text of what was found
 pub finds_made : (sectors : List Sector) (left_over : ℕ) (finds : List Find) (why : Why) (log : Option LogValue) (text : List ℕ) → AreFound sectors left_over finds
-    → (why ≡ why_of_finds finds) × (log ≡ None) × (text ≡ report_text finds) → IsMadeOfImage sectors left_over why log text
+    → (why ≡ why_of_finds finds) × (log ≡ None) × (text ≡ report_text finds) → IsMadeOfImage TellsFindings sectors left_over why log text
 finds_made sectors left_over finds why log text found made = record {
   none_behind = found.none_behind;
   no_log = made.1;
   tells = record { finds = finds; findings = found.findings; told = made.0; is_report = made.2 };
+  written = subst IsWritten (sym made.0) (finds_written finds);
   caused = subst (λ (w : Why). IsCausedByImage sectors left_over w) (sym made.0) found.caused;
 }
 
@@ -179,19 +185,22 @@ input_caused (Some all) left' sectors left_over why it caused =
     subst (λ (bytes : List ℕ). IsCaused Check bytes why) (sym it.read.0) (image_caused it.input sectors left_over why it.holds caused)
 
 pub image_made : (left left' : Option (List ℕ)) (sectors : List Sector) (left_over : ℕ) (why : Why) (log : Option LogValue) (text : List ℕ)
-    → OfInput left left' (λ bytes. IsImage bytes sectors left_over) → IsMadeOfImage sectors left_over why log text → IsMade Check left left' why log text
+    → OfInput left left' (λ bytes. IsImage bytes sectors left_over) → IsMadeOfImage TellsFindings sectors left_over why log text → IsMade Check left left' why log text
 image_made left left' sectors left_over why log text it made = record {
   made = record {
     input = it.input;
     read = it.read;
-    holds = (made.no_log, record {
+    holds = (
+      made.no_log,
+      record {
         sectors = sectors;
         image = subst (λ (n : ℕ). IsImage it.input sectors n) made.none_behind it.holds;
         holds = made.tells;
-      });
+      },
+    );
   };
   caused = input_caused left left' sectors left_over why it made.caused;
-  written = subst IsWritten (sym made.tells.told) (finds_written made.tells.finds);
+  written = made.written;
 }
 
 pub image_refused : (left left' : Option (List ℕ)) (faults faults' : ℕ) (sectors : List Sector) (left_over : ℕ) (why : Why)
@@ -211,3 +220,87 @@ large_only bytes other over h = absurd (omega (arith, over, h.image.few))
 -- an image of too many bytes
 pub image_too_large : (bytes : List ℕ) → most_image_bytes < length bytes → IsCaused Check bytes (TooLarge Bytes)
 image_too_large bytes over = record { cause = inr over; only = λ other h. large_only bytes other over h }
+
+-- what is caused where an image is checked is caused where it is listed
+tree_caused : (left : Option (List ℕ)) (why : Why) → IfSome left (λ bytes. IsCaused Check bytes why) → IfSome left (λ bytes. IsCaused Tree bytes why)
+tree_caused None why h = tt
+tree_caused (Some bytes) why h = record { cause = h.cause; only = h.only }
+
+pub tree_refused : (left left' : Option (List ℕ)) (faults faults' : ℕ) (why : Why) → IsRefused Check left left' faults faults' why
+    → IsRefused Tree left left' faults faults' why
+tree_refused left left' faults faults' why it = record {
+  caused = tree_caused left why it.caused;
+  refusal = it.refusal;
+  words = it.words;
+  read_fault = it.read_fault;
+  whole = it.whole;
+}
+
+pub image_listed : (left left' : Option (List ℕ)) (sectors : List Sector) (left_over : ℕ) (why : Why) (log : Option LogValue) (text : List ℕ)
+    → OfInput left left' (λ bytes. IsImage bytes sectors left_over) → IsMadeOfImage TellsTree sectors left_over why log text → IsMade Tree left left' why log text
+image_listed left left' sectors left_over why log text it made = record {
+  made = record {
+    input = it.input;
+    read = it.read;
+    holds = (
+      made.no_log,
+      record {
+        sectors = sectors;
+        image = subst (λ (n : ℕ). IsImage it.input sectors n) made.none_behind it.holds;
+        holds = made.tells;
+      },
+    );
+  };
+  caused = tree_caused left why (input_caused left left' sectors left_over why it made.caused);
+  written = made.written;
+}
+
+-- a volume in which nothing is found
+pub stands_clean : (sectors : List Sector) (left_over : ℕ) (finds : List Find) → finds ≡ [] → AreFound sectors left_over finds → StandVolume sectors
+stands_clean sectors left_over finds none found = record {
+  geom = found.findings.geom;
+  id = found.findings.id;
+  volume = found.findings.volume;
+  stands = found.sound none found.findings.geom found.findings.id found.findings.volume;
+}
+
+tree_made : (sectors : List Sector) (left_over : ℕ) (finds : List Find) (why : Why) (log : Option LogValue) (text : List ℕ) → AreFound sectors left_over finds
+    → why ≡ why_of_finds finds → log ≡ None → IsListing sectors finds text → IsMadeOfImage TellsTree sectors left_over why log text
+tree_made sectors left_over finds why log text found told no_log listed = record {
+  none_behind = found.none_behind;
+  no_log = no_log;
+  tells = record { finds = finds; findings = found.findings; told = told; is_listing = listed };
+  written = subst IsWritten (sym told) (finds_written finds);
+  caused = subst (λ (w : Why). IsCausedByImage sectors left_over w) (sym told) found.caused;
+}
+
+-- the listing of a volume in which nothing is found
+pub listing_made : (sectors : List Sector) (left_over : ℕ) (finds : List Find) (why : Why) (log : Option LogValue) (text : List ℕ) → finds ≡ []
+    → AreFound sectors left_over finds → (why ≡ Done) × (log ≡ None) × IsListing sectors [] text → IsMadeOfImage TellsTree sectors left_over why log text
+listing_made sectors left_over finds why log text none found made =
+    tree_made sectors left_over finds why log text found (made.0 ∙ ap why_of_finds (sym none)) made.1
+    (subst (λ (list : List Find). IsListing sectors list text) (sym none) made.2)
+
+listed_finds : (sectors : List Sector) (finds : List Find) (text : List ℕ) → (finds ≡ [] → ⊥) → text ≡ report_text finds → IsListing sectors finds text
+listed_finds sectors [] text some is = absurd (some refl)
+listed_finds sectors (first ∷ more) text some is = is
+
+-- the text of what was found where a tree was to be listed
+pub tree_finds_made : (sectors : List Sector) (left_over : ℕ) (finds : List Find) (why : Why) (log : Option LogValue) (text : List ℕ) → (finds ≡ [] → ⊥)
+    → AreFound sectors left_over finds → (why ≡ why_of_finds finds) × (log ≡ None) × (text ≡ report_text finds)
+    → IsMadeOfImage TellsTree sectors left_over why log text
+tree_finds_made sectors left_over finds why log text some found made =
+    tree_made sectors left_over finds why log text found made.0 made.1 (listed_finds sectors finds text some made.2)
+
+-- the first sector of a volume is its information
+pub first_volume : (sectors : List Sector) (first : Sector) → Some first ≡ slice_get sectors 0 → (v : StandVolume sectors)
+    → IsVol v.geom v.id × (first.bytes ≡ vol_bytes v.geom v.id)
+first_volume sectors first is v =
+    let info = v.volume.spelled.1 in
+    let there : slice_get sectors 0 ≡ Some info.0 = info.1 in
+    let same : first ≡ info.0 = cc in
+    (v.volume.spelled.0, ap (λ (s : Sector). s.bytes) same ∙ info.2)
+
+pub none_left : {A : Type 0} (list : List A) → length list ≡ 0 → list ≡ []
+none_left [] e = refl
+none_left (x ∷ list) e = absurd (omega (arith, e))

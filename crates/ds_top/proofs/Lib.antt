@@ -3,5 +3,6 @@ mod PromiseLaws
 mod CauseLaws
 mod FormatLaws
 mod ImageLaws
+mod SectorLaws
 mod CheckLaws
 mod RunLaws

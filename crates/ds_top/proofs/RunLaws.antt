@@ -7,15 +7,15 @@ use Rattle.ds_top.specs.declared.input.InputFault.TheVariants as inputs
 use Rattle.ds_base.specs.Outside.{Extends, HasRisen}
 use Rattle.ds_world.specs.LogValues.{LogValue}
 use Rattle.ds_top.specs.declared.commands.Command.{Command}
-use Rattle.ds_top.specs.declared.commands.Command.TheVariants.{Replay, Format, Check}
+use Rattle.ds_top.specs.declared.commands.Command.TheVariants.{Replay, Format, Check, Tree}
 use Rattle.ds_top.specs.declared.outcome.Why.{Why}
 use Rattle.ds_top.specs.declared.outcome.Why.TheVariants.{Done, TooLarge, BadWords, ReadFault, WriteFault, Memory, Findings}
 use Rattle.ds_top.specs.Causes.{Causes, CausesOutput, IsFree, OrFree, IsWritten}
 use Rattle.ds_top.specs.Commands.{AskFor}
 use Rattle.ds_top.specs.Edges.{IsReadWhole}
 use Rattle.ds_top.specs.Outcomes.{status_of, why_of_input}
-use Rattle.ds_top.specs.Promise.{OfInput, Wrote, IsRunOn, IsRunOf, IsFormatOn, IsCheckOn, HasOutput, IsRefusal}
-use Rattle.ds_top.specs.Runs.{IsCaused, IsMadeOf, IsRefusedOf, IsMade, IsRefused, Writes, Outputs, Ends}
+use Rattle.ds_top.specs.Promise.{OfInput, Wrote, IsRunOn, IsRunOf, IsFormatOn, IsCheckOn, IsListOn, HasOutput, IsRefusal}
+use Rattle.ds_top.specs.Runs.{Makes, IsCaused, IsMadeOf, IsRefusedOf, IsMade, IsRefused, Writes, Outputs, Ends}
 
 -- a run that wrote its output isn't free, no refusal, and no fault
 not_free : (why : Why) → IsWritten why → IsFree why → ⊥
@@ -163,6 +163,7 @@ makes_no_log : (command : Command) (input : List ℕ) (why : Why) (log : Option 
 makes_no_log Replay input why log text makes other = absurd (other refl)
 makes_no_log Format input why log text makes other = makes.1
 makes_no_log Check input why log text makes other = makes.0
+makes_no_log Tree input why log text makes other = makes.0
 
 -- a run that wrote all its output
 ends_whole : (command : Command) (left left' : Option (List ℕ)) (faults faults' : ℕ) (taken taken' : Option (List ℕ)) (failed failed' : ℕ) (why : Why)
@@ -314,3 +315,26 @@ pub check_of : (command : Command) (left left' : Option (List ℕ)) (faults faul
 check_of command left left' faults faults' taken taken' failed failed' why log same it has =
     let of = (ends_as command Check left left' faults faults' taken taken' failed failed' why log same it).output has in
     record { input = of.input; read = of.read; holds = check_on of.input taken taken' why log of.holds }
+
+-- the run of a listing
+list_on : (input : List ℕ) (taken taken' : Option (List ℕ)) (why : Why) (log : Option LogValue) → Outputs Tree input taken taken' why log
+    → IsListOn input taken taken' why
+list_on input taken taken' why log it =
+    let of = it.makes.1 in
+    record {
+      sectors = of.sectors;
+      finds = of.holds.finds;
+      text = it.text;
+      image = of.image;
+      findings = of.holds.findings;
+      is_listing = of.holds.is_listing;
+      told = ⊎_elim (λ (e : why ≡ it.made). inl (e ∙ of.holds.told)) (λ e. inr e) it.told;
+      written = it.written;
+    }
+
+pub list_of : (command : Command) (left left' : Option (List ℕ)) (faults faults' : ℕ) (taken taken' : Option (List ℕ)) (failed failed' : ℕ) (why : Why)
+    (log : Option LogValue) → command ≡ Tree → Ends command left left' faults faults' taken taken' failed failed' why log → HasOutput (status_of why)
+    → OfInput left left' (λ input. IsListOn input taken taken' why)
+list_of command left left' faults faults' taken taken' failed failed' why log same it has =
+    let of = (ends_as command Tree left left' faults faults' taken taken' failed failed' why log same it).output has in
+    record { input = of.input; read = of.read; holds = list_on of.input taken taken' why log of.holds }

@@ -8,7 +8,7 @@ use Rattle.ds_script.specs.declared.faults.What.TheVariants.{Bytes}
 use Rattle.ds_script.specs.Answers.{IsScenarioText, IsStuckText, IsVolumeText, HasBadLine, IsTooLarge}
 use Rattle.ds_script.specs.Faults.{in_scenario, in_volume}
 use Rattle.ds_top.specs.declared.commands.Command.{Command}
-use Rattle.ds_top.specs.declared.commands.Command.TheVariants.{Replay, Format, Check}
+use Rattle.ds_top.specs.declared.commands.Command.TheVariants.{Replay, Format, Check, Tree}
 use Rattle.ds_top.specs.Images.{IsImage, CausesImage, most_image_bytes}
 use Rattle.ds_top.specs.declared.outcome.Why.{Why}
 use Rattle.ds_top.specs.declared.outcome.Why.TheVariants.{Done, BadLine, TooLarge, Stuck, NotBuilt, BadImage, BadWords, ReadFault, WriteFault, Memory, Findings}
@@ -51,7 +51,7 @@ pub record IsOfImage (bytes : List ℕ) (why : Why) : Type 0 where
   pub image : IsImage bytes sectors left_over
   pub causes : CausesImage sectors left_over why
 
--- of an image that is checked
+-- of an image that is checked or listed
 abbrev pub CausesCheck : List ℕ → Why → Type 0
 CausesCheck bytes (TooLarge Bytes) = most_image_bytes < length bytes
 CausesCheck bytes why = IsOfImage bytes why
@@ -61,6 +61,7 @@ abbrev pub Causes : Command → List ℕ → Why → Type 0
 Causes Replay bytes why = CausesReplay bytes why
 Causes Format bytes why = CausesFormat bytes why
 Causes Check bytes why = CausesCheck bytes why
+Causes Tree bytes why = CausesCheck bytes why
 
 -- the outcomes that the bytes alone don't decide
 abbrev pub IsFree : Why → Type 0

@@ -1,10 +1,16 @@
 -- What bytes are as an image: whole sectors, and bytes left over behind them.
 use Rattle.std.specs.Prelude.{◌≡◌, ℕ, ◌≤◌, ◌<◌, ◌⊎◌, List, [], ◌∷◌, ◌++◌, length}
 use Rattle.std.specs.List.{flat_map, AllByRecursion}
+use Rattle.ds_base.specs.declared.geometry.Geom.{Geom}
 use Rattle.ds_base.specs.declared.sectors.Sector.{Sector}
+use Rattle.ds_tree.specs.Nodes.{FileTree}
+use Rattle.ds_image.specs.Logical.{IsLogical}
+use Rattle.ds_image.specs.Sound.{StandsFor}
+use Rattle.ds_report.specs.Listing.{listing_of}
 use Rattle.ds_check.specs.declared.findings.Find.{Find}
 use Rattle.ds_check.specs.Checks.{AreFindingsOf}
-use Rattle.ds_check.specs.Volumes.{IsBadImage}
+use Rattle.ds_check.specs.Texts.{report_text}
+use Rattle.ds_check.specs.Volumes.{AreOfVolume, IsBadImage}
 use Rattle.ds_top.specs.declared.outcome.Why.{Why}
 use Rattle.ds_top.specs.declared.outcome.Why.TheVariants.{Done, BadImage, Findings}
 
@@ -43,7 +49,7 @@ pub record HasFindings (sectors : List Sector) (left_over count : ℕ) : Type 0 
   pub counted : count ≡ length finds
   pub some : 0 < count
 
--- the outcome that an image causes where it is checked
+-- the outcome that an image causes where it is checked or listed
 abbrev pub CausesImage : List Sector → ℕ → Why → Type 0
 CausesImage sectors left_over Done = (left_over ≡ 0) × AreFindingsOf sectors []
 CausesImage sectors left_over (Findings count) = HasFindings sectors left_over count
@@ -54,3 +60,17 @@ CausesImage sectors left_over _ = ⊥
 abbrev pub why_of_finds : List Find → Why
 why_of_finds [] = Done
 why_of_finds (first ∷ more) = Findings (length (first ∷ more))
+
+-- the logical image of the volume that these sectors are stands for the tree
+pub record IsTreeOf (sectors : List Sector) (t : FileTree) : Type 0 where
+  pub geom : Geom
+  pub id : List ℕ
+  pub volume : AreOfVolume sectors geom id
+  pub image : List Sector
+  pub is_logical : IsLogical geom sectors image
+  pub stands : StandsFor geom image t
+
+-- the listing of the tree for which the logical image stands, or the findings where there are any
+abbrev pub IsListing : List Sector → List Find → List ℕ → Type 0
+IsListing sectors [] text = (t : FileTree) × IsTreeOf sectors t × (text ≡ listing_of t)
+IsListing sectors (first ∷ more) text = text ≡ report_text (first ∷ more)

@@ -1,5 +1,7 @@
 -- How a run of the program ends: its exit status, and what it says on standard error.
 use Rattle.std.specs.Prelude.{ℕ, List, [], ◌++◌, codes, decimal}
+use Rattle.ds_check.specs.declared.checking.CheckFault.{CheckFault}
+use Rattle.ds_check.specs.declared.checking.CheckFault.TheVariants as checks
 use Rattle.ds_script.specs.declared.faults.ScriptFault.{ScriptFault}
 use Rattle.ds_script.specs.declared.faults.ScriptFault.TheVariants as scripts
 use Rattle.ds_script.specs.declared.faults.What.TheVariants.{Bytes}
@@ -53,3 +55,8 @@ why_of_script (scripts.BadLine line why) = BadLine line why
 why_of_script (scripts.TooLarge what) = TooLarge what
 why_of_script (scripts.Stuck host directive) = Stuck host directive
 why_of_script scripts.NoMemory = Memory
+
+-- the outcome where sectors weren't checked
+abbrev pub why_of_check : CheckFault → Why
+why_of_check (checks.BadImage sector) = BadImage sector
+why_of_check checks.NoMemory = Memory

@@ -24,7 +24,7 @@ use Rattle.ds_top.specs.declared.outcome.Why.{Why}
 use Rattle.ds_top.specs.declared.outcome.Why.TheVariants.{Done, BadLine, TooLarge, Stuck, NotBuilt, BadImage, BadWords, ReadFault, WriteFault, Memory, Findings}
 use Rattle.ds_top.specs.Causes.{IsRunnable}
 use Rattle.ds_top.specs.Edges.{IsReadWhole, ExtendsByPart}
-use Rattle.ds_top.specs.Images.{IsImage, bytes_of, why_of_finds}
+use Rattle.ds_top.specs.Images.{IsImage, IsListing, bytes_of, why_of_finds}
 
 -- the log is that of a whole replay of the scenario, and the text is its report
 pub record IsReplayOf (s : Scenario) (log : LogValue) (text : List ℕ) : Type 0 where
@@ -75,6 +75,18 @@ pub record IsCheckOn (input : List ℕ) (taken taken' : Option (List ℕ)) (why 
   pub findings : AreFindingsOf sectors finds
   pub told : (why ≡ why_of_finds finds) ⊎ (why ≡ WriteFault)
   pub written : Wrote why taken taken' (report_text finds)
+
+-- the bytes are the sectors of a volume, and what was written is the listing of the tree for which its logical image stands, or
+-- the text of what is found in them
+pub record IsListOn (input : List ℕ) (taken taken' : Option (List ℕ)) (why : Why) : Type 0 where
+  pub sectors : List Sector
+  pub finds : List Find
+  pub text : List ℕ
+  pub image : IsImage input sectors 0
+  pub findings : AreFindingsOf sectors finds
+  pub is_listing : IsListing sectors finds text
+  pub told : (why ≡ why_of_finds finds) ⊎ (why ≡ WriteFault)
+  pub written : Wrote why taken taken' text
 
 -- all bytes of the source were read, and the run is on them
 abbrev pub IsRunOf : Option (List ℕ) → Option (List ℕ) → Option (List ℕ) → Option (List ℕ) → Why → Option LogValue → Type 0

@@ -4,13 +4,13 @@ ghost use Rattle.ds_base.specs.declared.sectors.Sector.{Sector};
 ghost use Rattle.ds_check.specs.Texts.{report_text};
 ghost use Rattle.ds_top.specs.declared.commands.Command.{Command};
 ghost use Rattle.ds_top.specs.Images.{why_of_finds};
-ghost use Rattle.ds_top.specs.Runs.{IsMade, IsRefused, IsMadeOfImage, IsRefusedOfImage, AreFound, bytes_in};
+ghost use Rattle.ds_top.specs.Runs.{IsMade, IsRefused, IsMadeOfImage, IsRefusedOfImage, AreFound, TellsFindings, bytes_in};
 
 use crate::image_input::{ImageRead, read_image};
 use crate::outcome::Why;
 use crate::output::{Body, Output};
 use ds_base::{SectorNo, Source};
-use ds_check::{CheckFault, Report, check};
+use ds_check::{Report, check};
 use std::alloc::Global;
 
 /// Reads an image, and makes the report of what is at odds in it.
@@ -29,7 +29,7 @@ pub(crate) fn read_and_check<S: Source>(alloc: Global, source: &mut S) -> Result
 fn check_image(alloc: Global, image: &ImageRead) -> Result<Output, Why>
     requires { length image.now.sectors.items ≤ 131072 }
     ensures { MatchResult result
-        (λ it. IsMadeOfImage image.now.sectors.items image.now.left_over it.why it.log (bytes_in it.body))
+        (λ it. IsMadeOfImage TellsFindings image.now.sectors.items image.now.left_over it.why it.log (bytes_in it.body))
         (λ why. IsRefusedOfImage image.now.sectors.items image.now.left_over why) }
 {
     match report_of(alloc, image) {
@@ -54,8 +54,7 @@ pub(crate) fn report_of(alloc: Global, image: &ImageRead) -> Result<Report, Why>
             }
             Ok(report)
         }
-        Err(CheckFault::BadImage { sector }) => Err(Why::BadImage { sector }),
-        Err(CheckFault::NoMemory) => Err(Why::Memory),
+        Err(fault) => Err(Why::from(fault)),
     }
 }
 

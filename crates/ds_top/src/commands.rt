@@ -13,6 +13,8 @@ pub enum Command {
     Format,
     /// To check an image, and to write what is at odds in it.
     Check,
+    /// To list the file tree of an image, or else to write what is at odds in it.
+    Tree,
 }
 
 impl Command {
@@ -39,6 +41,7 @@ impl Command {
             b"replay" => Some(Command::Replay),
             b"format" => Some(Command::Format),
             b"check" => Some(Command::Check),
+            b"tree" => Some(Command::Tree),
             _ => None,
         }
     }

@@ -19,10 +19,7 @@ pub(crate) struct ImageRead {
 }
 
 /// Reads an image to the end of the input. After an error some bytes are lost.
-pub(crate) fn read_image<S: Source>(
-    alloc: Global,
-    source: &mut S,
-) -> Result<ImageRead, InputFault>
+pub(crate) fn read_image<S: Source>(alloc: Global, source: &mut S) -> Result<ImageRead, InputFault>
     ensures whole { IfOk result (λ image. OfInput (S.left source.old) (S.left source.new)
         (λ bytes. IsImage bytes image.sectors.items image.left_over)) }
     ensures count { IfOk result (λ image. length image.sectors.items ≤ 131072) }

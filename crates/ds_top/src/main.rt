@@ -6,6 +6,7 @@ mod commands;
 mod formatting;
 mod image_input;
 mod input;
+mod listing;
 mod outcome;
 mod output;
 mod replaying;
@@ -49,5 +50,7 @@ fn words(rt: &HostRuntime) -> io::Result<Vec<String>> {
     Ok(words)
 }
 
+#[cfg(test)]
+mod image_tests;
 #[cfg(test)]
 mod tests;

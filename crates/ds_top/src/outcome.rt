@@ -4,6 +4,7 @@ ghost use Rattle.ds_top.specs.Outcomes.{status_of};
 
 use crate::input::InputFault;
 use ds_base::{HostNo, NoMemory, SectorNo};
+use ds_check::CheckFault;
 use ds_script::{LineFault, ScriptFault, What};
 use ds_world::Log;
 use std::fmt;
@@ -110,6 +111,19 @@ impl From<ScriptFault> for Why {
             ScriptFault::TooLarge { what } => Why::TooLarge { what },
             ScriptFault::Stuck { host, directive } => Why::Stuck { host, directive },
             ScriptFault::NoMemory => Why::Memory,
+        }
+    }
+}
+
+impl From<CheckFault> for Why {
+    ghost use Rattle.ds_top.specs.Outcomes.{why_of_check};
+
+    ghost from_gives = { λ fault why. why ≡ why_of_check fault };
+
+    fn from(fault: CheckFault) -> Why {
+        match fault {
+            CheckFault::BadImage { sector } => Why::BadImage { sector },
+            CheckFault::NoMemory => Why::Memory,
         }
     }
 }

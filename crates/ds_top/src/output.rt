@@ -68,8 +68,12 @@ fn write_sectors<K: Sink>(sink: &mut K, sectors: &[Sector]) -> Result<(), Output
     ensures failed { OnErr result (HasRisen (K.faults sink.old) (K.faults sink.new)) }
     ensures part { OnErr result (ExtendsByPart (K.taken sink.old) (K.taken sink.new) (bytes_of sectors.now)) }
 {
-    for sector in sectors {
-        write_all(sink, &sector.bytes)?;
+    let mut left = sectors;
+    'sectors: while let Some((first, rest)) = left.split_first() {
+        match write_all(sink, &first.bytes) {
+            Ok(()) => left = rest,
+            Err(fault) => return Err(fault),
+        }
     }
     Ok(())
 }

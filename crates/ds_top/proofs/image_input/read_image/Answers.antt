@@ -1,7 +1,7 @@
 use Rattle.std.proofs.Common.{◌≡◌, ◌≢◌, ◌-◌, ◌+◌, ◌*◌, ℕ, ◌≤◌, ◌∷◌, [], ◌++◌, length, arith}
 use Rattle.std.proofs.lemmas.Grind.{common_steps}
 use Rattle.std.proofs.lemmas.Bool.Decides.{nat_tests}
-use Rattle.ds_top.proofs.ImageLaws.{IsPartRead-start, IsPartRead-more, IsPartRead-next, too_many, image_of, within}
+use Rattle.ds_top.proofs.ImageLaws.{IsPartRead-start, IsPartRead-more, IsPartRead-next, too_many, image_of, within, count_within}
 use Rattle.ds_top.proofs.image_input.read_image.Goals as goal
 
 pub returns-then-len-eq-MOST_SECTORS-clause-large :
@@ -39,3 +39,6 @@ loop-n-preserved g c =
     let unfilled : c.loop-n.filled + c.in-Got.n ≢ 512 = grind (arith, nat_tests) in
     let room : length c.loop-n.sectors.items ≢ 131072 = grind (arith, nat_tests) in
     IsPartRead-more _ _ _ _ _ _ c.loop-n.sectors.items _ c.next.new.buf c.loop-n.filled c.in-Got.n c.loop-n.invariant long c.in-Got.ensures.gives.1 c.in-Got.ensures.gives.2 c.in-Got.ensures.faults unfilled room
+
+pub returns-in-End-clause-count : goal.returns-in-End-clause-count
+returns-in-End-clause-count g c = count_within _ _ _ _ c.loop-n.sectors.items _ _ c.loop-n.invariant
