@@ -47,10 +47,7 @@ answer_for bytes (BadLine line why) h = record { answer = err (scripts.BadLine l
 answer_for bytes (TooLarge what) h = record { answer = err (scripts.TooLarge what); is_answer = h; told = told_as (scripts.TooLarge what) }
 answer_for bytes (Stuck host directive) h =
     record { answer = err (scripts.Stuck host directive); is_answer = h; told = told_as (scripts.Stuck host directive) }
-answer_for bytes BadWords h = absurd h
-answer_for bytes ReadFault h = absurd h
-answer_for bytes WriteFault h = absurd h
-answer_for bytes Memory h = absurd h
+answer_for bytes _ h = absurd h
 
 -- what is wrong with a text is caused by it
 fault_caused : (bytes : List ℕ) (fault : ScriptFault) → OrNoMemory (err fault) (IsAnswer bytes (err fault))
@@ -75,19 +72,19 @@ fault_only bytes fault other only h =
     (λ (e : err fault ≡ found.answer). inr (found.told fault (sym e)))
     (only found.answer found.is_answer)
 
-fault_refusal : (fault : ScriptFault) → IsRefusal (why_of_script fault)
+pub fault_refusal : (fault : ScriptFault) → IsRefusal (why_of_script fault)
 fault_refusal (scripts.BadLine line why) = tt
 fault_refusal (scripts.TooLarge what) = tt
 fault_refusal (scripts.Stuck host directive) = tt
 fault_refusal scripts.NoMemory = tt
 
-fault_words : (fault : ScriptFault) → why_of_script fault ≢ BadWords
+pub fault_words : (fault : ScriptFault) → why_of_script fault ≢ BadWords
 fault_words (scripts.BadLine line why) e = absurd (cc)
 fault_words (scripts.TooLarge what) e = absurd (cc)
 fault_words (scripts.Stuck host directive) e = absurd (cc)
 fault_words scripts.NoMemory e = absurd (cc)
 
-fault_read : (fault : ScriptFault) → why_of_script fault ≢ ReadFault
+pub fault_read : (fault : ScriptFault) → why_of_script fault ≢ ReadFault
 fault_read (scripts.BadLine line why) e = absurd (cc)
 fault_read (scripts.TooLarge what) e = absurd (cc)
 fault_read (scripts.Stuck host directive) e = absurd (cc)
@@ -129,10 +126,7 @@ outcome_of bytes s (NotBuilt host directive) only h =
 outcome_of bytes s (BadLine line why) only h = no_answer bytes s (scripts.BadLine line why) only h
 outcome_of bytes s (TooLarge what) only h = no_answer bytes s (scripts.TooLarge what) only h
 outcome_of bytes s (Stuck host directive) only h = no_answer bytes s (scripts.Stuck host directive) only h
-outcome_of bytes s BadWords only h = h
-outcome_of bytes s ReadFault only h = h
-outcome_of bytes s WriteFault only h = h
-outcome_of bytes s Memory only h = h
+outcome_of bytes s _ only h = h
 
 done_only : (s : Scenario) (why : Why) → ((host directive : ℕ) → NotBuiltAt s host directive → ⊥) → HasOutcome s why → OrFree Done (Done ≡ why)
 done_only s Done none h = inr refl
@@ -179,10 +173,7 @@ few_only bytes (TooLarge Directives) over h = absurd (omega (arith, over, h.0))
 few_only bytes (TooLarge Steps) over h = absurd (omega (arith, over, h.0))
 few_only bytes (TooLarge Volume) over h = absurd (omega (arith, over, h.0))
 few_only bytes (Stuck host directive) over h = absurd (omega (arith, over, h.in_order.spells.few_bytes))
-few_only bytes BadWords over h = absurd h
-few_only bytes ReadFault over h = absurd h
-few_only bytes WriteFault over h = absurd h
-few_only bytes Memory over h = absurd h
+few_only bytes _ over h = absurd h
 
 -- a text of too many bytes
 pub text_too_large : (bytes : List ℕ) → most_bytes < length bytes → IsCaused Replay bytes (TooLarge Bytes)

@@ -1,4 +1,8 @@
 mod EdgeLaws
 mod PromiseLaws
 mod CauseLaws
+mod FormatLaws
+mod ImageLaws
+mod SectorLaws
+mod CheckLaws
 mod RunLaws

@@ -1,30 +1,31 @@
 -- What the work of a command and the writing of its output come to.
-use Rattle.std.proofs.Common.{◌≡◌, ◌≢◌, ℕ, ◌<◌, ⊎_elim, inl, inr, List, [], length, refl, sym, subst, arith, Option, Some, None}
+use Rattle.std.proofs.Common.{◌≡◌, ◌≢◌, ℕ, ◌<◌, ⊎_elim, inl, inr, List, [], length, refl, sym, subst, ◌∙◌, arith, Option, Some, None}
 use Rattle.std.specs.Prelude.{IfSome, Result, Ok, Err, MatchResult}
-use Rattle.ds_tree.specs.Grammar.{most_bytes}
 use Rattle.ds_script.specs.declared.faults.What.TheVariants.{Bytes}
 use Rattle.ds_top.specs.declared.input.InputFault.{InputFault}
 use Rattle.ds_top.specs.declared.input.InputFault.TheVariants as inputs
 use Rattle.ds_base.specs.Outside.{Extends, HasRisen}
 use Rattle.ds_world.specs.LogValues.{LogValue}
 use Rattle.ds_top.specs.declared.commands.Command.{Command}
-use Rattle.ds_top.specs.declared.commands.Command.TheVariants.{Replay}
+use Rattle.ds_top.specs.declared.commands.Command.TheVariants.{Replay, Format, Check, Tree}
 use Rattle.ds_top.specs.declared.outcome.Why.{Why}
-use Rattle.ds_top.specs.declared.outcome.Why.TheVariants.{Done, TooLarge, BadWords, ReadFault, WriteFault, Memory}
+use Rattle.ds_top.specs.declared.outcome.Why.TheVariants.{Done, TooLarge, BadWords, ReadFault, WriteFault, Memory, Findings}
 use Rattle.ds_top.specs.Causes.{Causes, CausesOutput, IsFree, OrFree, IsWritten}
 use Rattle.ds_top.specs.Commands.{AskFor}
 use Rattle.ds_top.specs.Edges.{IsReadWhole}
 use Rattle.ds_top.specs.Outcomes.{status_of, why_of_input}
-use Rattle.ds_top.specs.Promise.{OfInput, Wrote, IsRunOn, IsRunOf, HasOutput, IsRefusal}
-use Rattle.ds_top.specs.Runs.{IsCaused, IsMadeOf, IsRefusedOf, IsMade, IsRefused, Writes, Outputs, Ends}
+use Rattle.ds_top.specs.Promise.{OfInput, Wrote, IsRunOn, IsRunOf, IsFormatOn, IsCheckOn, IsListOn, HasOutput, IsRefusal}
+use Rattle.ds_top.specs.Runs.{Makes, IsCaused, IsMadeOf, IsRefusedOf, IsMade, IsRefused, Writes, Outputs, Ends}
 
 -- a run that wrote its output isn't free, no refusal, and no fault
 not_free : (why : Why) → IsWritten why → IsFree why → ⊥
 not_free Done written free = free
+not_free (Findings count) written free = free
 not_free _ written free = written
 
 not_refused : (why : Why) → IsWritten why → IsRefusal why → ⊥
 not_refused Done written refusal = refusal
+not_refused (Findings count) written refusal = refusal
 not_refused _ written refusal = written
 
 is_not : (why other : Why) → IsWritten why → (IsWritten other → ⊥) → why ≢ other
@@ -34,7 +35,8 @@ is_not why other written unwritten same = unwritten (subst IsWritten same writte
 no_output : (why : Why) → IsRefusal why → HasOutput (status_of why) → ⊥
 no_output Done refusal has = refusal
 no_output WriteFault refusal has = refusal
-no_output _ refusal has = ⊎_elim (λ e. omega (arith, e)) (λ e. omega (arith, e)) has
+no_output (Findings count) refusal has = refusal
+no_output _ refusal has = ⊎_elim (λ e. omega (arith, e)) (λ h. ⊎_elim (λ e. omega (arith, e)) (λ e. omega (arith, e)) h) has
 
 -- want of memory
 pub memory_refused : (command : Command) (bytes : List ℕ) → IsRefusedOf command bytes Memory
@@ -51,35 +53,35 @@ pub result_map : {T E : Type 0} (r : Result T E) (P P' : T → Type 0) (Q Q' : E
 result_map (Ok x) P P' Q Q' f h m = f x m
 result_map (Err e) P P' Q Q' f h m = h e m
 
-large_caused : (command : Command) (left : Option (List ℕ)) → ((bytes : List ℕ) → most_bytes < length bytes → IsCaused command bytes (TooLarge Bytes))
-    → IfSome left (λ bytes. most_bytes < length bytes) → IfSome left (λ bytes. IsCaused command bytes (TooLarge Bytes))
-large_caused command None caused large = tt
-large_caused command (Some bytes) caused large = caused bytes large
+large_caused : (command : Command) (limit : ℕ) (left : Option (List ℕ)) → ((bytes : List ℕ) → limit < length bytes → IsCaused command bytes (TooLarge Bytes))
+    → IfSome left (λ bytes. limit < length bytes) → IfSome left (λ bytes. IsCaused command bytes (TooLarge Bytes))
+large_caused command limit None caused large = tt
+large_caused command limit (Some bytes) caused large = caused bytes large
 
 free_fault : (command : Command) (left : Option (List ℕ)) (why : Why) → IsFree why → IfSome left (λ bytes. IsCaused command bytes why)
 free_fault command None why free = tt
 free_fault command (Some bytes) why free = record { cause = inl free; only = λ other h. inl free }
 
 -- input that wasn't read to its end
-pub input_refused : (command : Command) (left left' : Option (List ℕ)) (faults faults' : ℕ) (fault : InputFault)
-    → (fault ≡ inputs.TooLarge → IfSome left (λ bytes. most_bytes < length bytes)) → (fault ≡ inputs.Fault → HasRisen faults faults')
-    → ((bytes : List ℕ) → most_bytes < length bytes → IsCaused command bytes (TooLarge Bytes))
+pub input_refused : (command : Command) (limit : ℕ) (left left' : Option (List ℕ)) (faults faults' : ℕ) (fault : InputFault)
+    → (fault ≡ inputs.TooLarge → IfSome left (λ bytes. limit < length bytes)) → (fault ≡ inputs.Fault → HasRisen faults faults')
+    → ((bytes : List ℕ) → limit < length bytes → IsCaused command bytes (TooLarge Bytes))
     → IsRefused command left left' faults faults' (why_of_input fault)
-input_refused command left left' faults faults' inputs.Fault large failed caused = record {
+input_refused command limit left left' faults faults' inputs.Fault large failed caused = record {
   caused = free_fault command left ReadFault tt;
   refusal = tt;
   words = λ e. absurd (cc);
   read_fault = λ e. failed refl;
   whole = λ h. absurd h;
 }
-input_refused command left left' faults faults' inputs.TooLarge large failed caused = record {
-  caused = large_caused command left caused (large refl);
+input_refused command limit left left' faults faults' inputs.TooLarge large failed caused = record {
+  caused = large_caused command limit left caused (large refl);
   refusal = tt;
   words = λ e. absurd (cc);
   read_fault = λ e. absurd (cc);
   whole = λ h. absurd h;
 }
-input_refused command left left' faults faults' inputs.NoMemory large failed caused = record {
+input_refused command limit left left' faults faults' inputs.NoMemory large failed caused = record {
   caused = free_fault command left Memory tt;
   refusal = tt;
   words = λ e. absurd (cc);
@@ -93,7 +95,7 @@ caused_whole : (command : Command) (left left' : Option (List ℕ)) (bytes : Lis
 caused_whole command None left' bytes why read caused = tt
 caused_whole command (Some all) left' bytes why read caused = subst (λ (xs : List ℕ). IsCaused command xs why) (sym read.0) caused
 
-at_end : (left left' : Option (List ℕ)) (bytes : List ℕ) → IsReadWhole left left' bytes → IfSome left (λ all. left' ≡ Some [])
+pub at_end : (left left' : Option (List ℕ)) (bytes : List ℕ) → IsReadWhole left left' bytes → IfSome left (λ all. left' ≡ Some [])
 at_end None left' bytes read = tt
 at_end (Some all) left' bytes read = read.1
 
@@ -138,6 +140,7 @@ ends_refused command left left' faults faults' taken taken' failed failed' why i
   write_fault = λ e. absurd (subst IsRefusal e it.refusal);
   whole = it.whole;
   refused = λ h. (same, refl);
+  no_log = λ h. refl;
 }
 
 output_caused : (command : Command) (left : Option (List ℕ)) (why : Why) → IsWritten why → IfSome left (λ bytes. IsCaused command bytes why)
@@ -148,10 +151,19 @@ output_caused command (Some bytes) why written h =
 
 wrote_all : (why : Why) (taken taken' : Option (List ℕ)) (text : List ℕ) → IsWritten why → Extends taken taken' text → Wrote why taken taken' text
 wrote_all Done taken taken' text written all = all
+wrote_all (Findings count) taken taken' text written all = all
 wrote_all _ taken taken' text written all = absurd written
 
-read_to_end : (left left' : Option (List ℕ)) (P : List ℕ → Type 0) → OfInput left left' P → IfSome left (λ bytes. left' ≡ Some [])
+pub read_to_end : (left left' : Option (List ℕ)) (P : List ℕ → Type 0) → OfInput left left' P → IfSome left (λ bytes. left' ≡ Some [])
 read_to_end left left' P it = at_end left left' it.input it.read
+
+-- a replay alone has a log
+makes_no_log : (command : Command) (input : List ℕ) (why : Why) (log : Option LogValue) (text : List ℕ) → Makes command input why log text
+    → (command ≡ Replay → ⊥) → log ≡ None
+makes_no_log Replay input why log text makes other = absurd (other refl)
+makes_no_log Format input why log text makes other = makes.1
+makes_no_log Check input why log text makes other = makes.0
+makes_no_log Tree input why log text makes other = makes.0
 
 -- a run that wrote all its output
 ends_whole : (command : Command) (left left' : Option (List ℕ)) (faults faults' : ℕ) (taken taken' : Option (List ℕ)) (failed failed' : ℕ) (why : Why)
@@ -171,6 +183,7 @@ ends_whole command left left' faults faults' taken taken' failed failed' why log
   write_fault = λ e. absurd (is_not why WriteFault it.written (λ h. h) e);
   whole = λ h. read_to_end left left' _ it.made;
   refused = λ h. absurd (not_refused why it.written h);
+  no_log = makes_no_log command it.made.input why log text it.made.holds;
 }
 
 -- a run that wrote a front of its output
@@ -191,6 +204,7 @@ ends_part command left left' faults faults' taken taken' failed failed' made log
   write_fault = λ e. risen;
   whole = λ h. read_to_end left left' _ it.made;
   refused = λ h. absurd h;
+  no_log = makes_no_log command it.made.input made log text it.made.holds;
 }
 
 pub ends_written : (command : Command) (left left' : Option (List ℕ)) (faults faults' : ℕ) (taken taken' : Option (List ℕ)) (failed failed' : ℕ) (made why : Why)
@@ -248,11 +262,79 @@ run_on input taken taken' why log it = record {
   written = it.written;
 }
 
+-- a run of the command that was asked for
+ends_as : (command other : Command) (left left' : Option (List ℕ)) (faults faults' : ℕ) (taken taken' : Option (List ℕ)) (failed failed' : ℕ) (why : Why)
+    (log : Option LogValue) → command ≡ other → Ends command left left' faults faults' taken taken' failed failed' why log
+    → Ends other left left' faults faults' taken taken' failed failed' why log
+ends_as command other left left' faults faults' taken taken' failed failed' why log same it =
+    subst (λ (c : Command). Ends c left left' faults faults' taken taken' failed failed' why log) same it
+
 pub run_of : (command : Command) (left left' : Option (List ℕ)) (faults faults' : ℕ) (taken taken' : Option (List ℕ)) (failed failed' : ℕ) (why : Why)
     (log : Option LogValue) → command ≡ Replay → Ends command left left' faults faults' taken taken' failed failed' why log → HasOutput (status_of why)
     → IsRunOf left left' taken taken' why log
-run_of command left left' faults faults' taken taken' failed failed' why log is it has =
-    let ends : Ends Replay left left' faults faults' taken taken' failed failed' why log =
-    subst (λ (c : Command). Ends c left left' faults faults' taken taken' failed failed' why log) is it in
-    let of = ends.output has in
+run_of command left left' faults faults' taken taken' failed failed' why log same it has =
+    let of = (ends_as command Replay left left' faults faults' taken taken' failed failed' why log same it).output has in
     record { input = of.input; read = of.read; holds = run_on of.input taken taken' why log of.holds }
+
+-- the run of a formatting
+format_on : (input : List ℕ) (taken taken' : Option (List ℕ)) (why : Why) (log : Option LogValue) → Outputs Format input taken taken' why log
+    → IsFormatOn input taken taken' why
+format_on input taken taken' why log it = record {
+  id = it.makes.2.id;
+  geom = it.makes.2.geom;
+  sectors = it.makes.2.sectors;
+  is_text = it.makes.2.is_text;
+  formatted = it.makes.2.formatted;
+  written = subst (λ (text : List ℕ). Wrote why taken taken' text) it.makes.2.is_bytes it.written;
+}
+
+pub format_of : (command : Command) (left left' : Option (List ℕ)) (faults faults' : ℕ) (taken taken' : Option (List ℕ)) (failed failed' : ℕ) (why : Why)
+    (log : Option LogValue) → command ≡ Format → Ends command left left' faults faults' taken taken' failed failed' why log → HasOutput (status_of why)
+    → OfInput left left' (λ input. IsFormatOn input taken taken' why)
+format_of command left left' faults faults' taken taken' failed failed' why log same it has =
+    let of = (ends_as command Format left left' faults faults' taken taken' failed failed' why log same it).output has in
+    record { input = of.input; read = of.read; holds = format_on of.input taken taken' why log of.holds }
+
+-- the run of a check
+check_on : (input : List ℕ) (taken taken' : Option (List ℕ)) (why : Why) (log : Option LogValue) → Outputs Check input taken taken' why log
+    → IsCheckOn input taken taken' why
+check_on input taken taken' why log it =
+    let of = it.makes.1 in
+    record {
+      sectors = of.sectors;
+      finds = of.holds.finds;
+      image = of.image;
+      findings = of.holds.findings;
+      told = ⊎_elim (λ (e : why ≡ it.made). inl (e ∙ of.holds.told)) (λ e. inr e) it.told;
+      written = subst (λ (text : List ℕ). Wrote why taken taken' text) of.holds.is_report it.written;
+    }
+
+pub check_of : (command : Command) (left left' : Option (List ℕ)) (faults faults' : ℕ) (taken taken' : Option (List ℕ)) (failed failed' : ℕ) (why : Why)
+    (log : Option LogValue) → command ≡ Check → Ends command left left' faults faults' taken taken' failed failed' why log → HasOutput (status_of why)
+    → OfInput left left' (λ input. IsCheckOn input taken taken' why)
+check_of command left left' faults faults' taken taken' failed failed' why log same it has =
+    let of = (ends_as command Check left left' faults faults' taken taken' failed failed' why log same it).output has in
+    record { input = of.input; read = of.read; holds = check_on of.input taken taken' why log of.holds }
+
+-- the run of a listing
+list_on : (input : List ℕ) (taken taken' : Option (List ℕ)) (why : Why) (log : Option LogValue) → Outputs Tree input taken taken' why log
+    → IsListOn input taken taken' why
+list_on input taken taken' why log it =
+    let of = it.makes.1 in
+    record {
+      sectors = of.sectors;
+      finds = of.holds.finds;
+      text = it.text;
+      image = of.image;
+      findings = of.holds.findings;
+      is_listing = of.holds.is_listing;
+      told = ⊎_elim (λ (e : why ≡ it.made). inl (e ∙ of.holds.told)) (λ e. inr e) it.told;
+      written = it.written;
+    }
+
+pub list_of : (command : Command) (left left' : Option (List ℕ)) (faults faults' : ℕ) (taken taken' : Option (List ℕ)) (failed failed' : ℕ) (why : Why)
+    (log : Option LogValue) → command ≡ Tree → Ends command left left' faults faults' taken taken' failed failed' why log → HasOutput (status_of why)
+    → OfInput left left' (λ input. IsListOn input taken taken' why)
+list_of command left left' faults faults' taken taken' failed failed' why log same it has =
+    let of = (ends_as command Tree left left' faults faults' taken taken' failed failed' why log same it).output has in
+    record { input = of.input; read = of.read; holds = list_on of.input taken taken' why log of.holds }

@@ -9,6 +9,12 @@ ghost use Rattle.ds_top.specs.Commands.{AskFor, word_of};
 pub enum Command {
     /// To replay a scenario and to write the report.
     Replay,
+    /// To format the volume that a line names, and to write its sectors.
+    Format,
+    /// To check an image, and to write what is at odds in it.
+    Check,
+    /// To list the file tree of an image, or else to write what is at odds in it.
+    Tree,
 }
 
 impl Command {
@@ -33,6 +39,9 @@ impl Command {
     {
         match word {
             b"replay" => Some(Command::Replay),
+            b"format" => Some(Command::Format),
+            b"check" => Some(Command::Check),
+            b"tree" => Some(Command::Tree),
             _ => None,
         }
     }

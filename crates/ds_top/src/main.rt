@@ -1,8 +1,12 @@
-//! The program: it replays a scenario that it reads, and writes the report.
+//! The program: it replays scenarios, formats volumes, and checks images.
 #![tactic(auto)]
 
+mod checking;
 mod commands;
+mod formatting;
+mod image_input;
 mod input;
+mod listing;
 mod outcome;
 mod output;
 mod replaying;
@@ -46,5 +50,7 @@ fn words(rt: &HostRuntime) -> io::Result<Vec<String>> {
     Ok(words)
 }
 
+#[cfg(test)]
+mod image_tests;
 #[cfg(test)]
 mod tests;

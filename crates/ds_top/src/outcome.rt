@@ -3,7 +3,8 @@ ghost use Rattle.std.specs.Prelude.{◌≡◌, None};
 ghost use Rattle.ds_top.specs.Outcomes.{status_of};
 
 use crate::input::InputFault;
-use ds_base::{HostNo, NoMemory};
+use ds_base::{HostNo, NoMemory, SectorNo};
+use ds_check::CheckFault;
 use ds_script::{LineFault, ScriptFault, What};
 use ds_world::Log;
 use std::fmt;
@@ -28,10 +29,15 @@ pub enum Why {
     /// The scenario can't be run now: at host 0 and directive 0 for its geometry, at host 1 and directive 0 for its second
     /// host, and else at the first directive of its one host that can't.
     NotBuilt { host: HostNo, directive: u32 },
+    /// The bytes aren't the sectors of a volume: the first sector is no volume information, or this sector isn't there
+    /// whole, or it is the first behind the volume.
+    BadImage { sector: SectorNo },
     BadWords,
     ReadFault,
     WriteFault,
     Memory,
+    /// So much is at odds in the image, and was written.
+    Findings { count: u32 },
 }
 
 impl Why {
@@ -45,10 +51,12 @@ impl Why {
             Why::Done => 0,
             Why::BadLine { .. } | Why::TooLarge { .. } => 1,
             Why::Stuck { .. } | Why::NotBuilt { .. } => 1,
+            Why::BadImage { .. } => 1,
             Why::BadWords => 2,
             Why::ReadFault => 3,
             Why::WriteFault => 4,
             Why::Memory => 5,
+            Why::Findings { .. } => 6,
         }
     }
 }
@@ -68,10 +76,12 @@ impl fmt::Display for Why {
             Why::NotBuilt { host, directive } => {
                 write!(f, "not built: host {host} at {directive}")
             }
+            Why::BadImage { sector } => write!(f, "bad image: sector {sector}"),
             Why::BadWords => write!(f, "bad words"),
             Why::ReadFault => write!(f, "read fault"),
             Why::WriteFault => write!(f, "write fault"),
             Why::Memory => write!(f, "out of memory"),
+            Why::Findings { count } => write!(f, "findings: {count}"),
         }
     }
 }
@@ -101,6 +111,19 @@ impl From<ScriptFault> for Why {
             ScriptFault::TooLarge { what } => Why::TooLarge { what },
             ScriptFault::Stuck { host, directive } => Why::Stuck { host, directive },
             ScriptFault::NoMemory => Why::Memory,
+        }
+    }
+}
+
+impl From<CheckFault> for Why {
+    ghost use Rattle.ds_top.specs.Outcomes.{why_of_check};
+
+    ghost from_gives = { λ fault why. why ≡ why_of_check fault };
+
+    fn from(fault: CheckFault) -> Why {
+        match fault {
+            CheckFault::BadImage { sector } => Why::BadImage { sector },
+            CheckFault::NoMemory => Why::Memory,
         }
     }
 }

@@ -3,10 +3,11 @@ ghost use Rattle.std.specs.Prelude.{◌≡◌, ◌≤◌, OnOk, OnErr};
 ghost use Rattle.ds_base.specs.Outside.{Extends, HasRisen};
 ghost use Rattle.ds_top.specs.Edges.{ExtendsByPart};
 ghost use Rattle.ds_top.specs.Outcomes.{status_of};
-ghost use Rattle.ds_top.specs.Runs.{Writes};
+ghost use Rattle.ds_top.specs.Images.{bytes_of};
+ghost use Rattle.ds_top.specs.Runs.{Writes, bytes_in};
 
 use crate::outcome::{Outcome, Why};
-use ds_base::{Gave, Sink};
+use ds_base::{Gave, Sector, Sink};
 use ds_world::Log;
 use thiserror::Error;
 
@@ -20,18 +21,25 @@ pub struct OutputFault;
 pub(crate) struct Output {
     pub(crate) why: Why,
     pub(crate) log: Option<Log>,
-    pub(crate) text: Vec<u8>,
+    pub(crate) body: Body,
+}
+
+/// The bytes of an output.
+#[derive(Drop)]
+pub(crate) enum Body {
+    Text(Vec<u8>),
+    Sectors(Vec<Sector>),
 }
 
 /// Writes the output of a run.
 pub(crate) fn written<K: Sink>(output: Output, sink: &mut K) -> Outcome
     ensures status { result.status ≡ status_of result.why }
     ensures log { result.log ≡ output.log }
-    ensures writes { Writes output.why output.text.items (K.taken sink.old) (K.taken sink.new)
+    ensures writes { Writes output.why (bytes_in output.body) (K.taken sink.old) (K.taken sink.new)
         (K.faults sink.old) (K.faults sink.new) result.why }
 {
-    let Output { why, log, text } = output;
-    let why = match write_all(sink, text.as_slice()) {
+    let Output { why, log, body } = output;
+    let why = match write_body(sink, &body) {
         Ok(()) => why,
         Err(_) => Why::WriteFault,
     };
@@ -40,6 +48,34 @@ pub(crate) fn written<K: Sink>(output: Output, sink: &mut K) -> Outcome
         why,
         log,
     }
+}
+
+/// Writes all bytes of an output.
+fn write_body<K: Sink>(sink: &mut K, body: &Body) -> Result<(), OutputFault>
+    ensures ok { OnOk result (Extends (K.taken sink.old) (K.taken sink.new) (bytes_in body.now)) }
+    ensures failed { OnErr result (HasRisen (K.faults sink.old) (K.faults sink.new)) }
+    ensures part { OnErr result (ExtendsByPart (K.taken sink.old) (K.taken sink.new) (bytes_in body.now)) }
+{
+    match body {
+        Body::Text(text) => write_all(sink, text),
+        Body::Sectors(sectors) => write_sectors(sink, sectors),
+    }
+}
+
+/// Writes sectors, one after another.
+fn write_sectors<K: Sink>(sink: &mut K, sectors: &[Sector]) -> Result<(), OutputFault>
+    ensures ok { OnOk result (Extends (K.taken sink.old) (K.taken sink.new) (bytes_of sectors.now)) }
+    ensures failed { OnErr result (HasRisen (K.faults sink.old) (K.faults sink.new)) }
+    ensures part { OnErr result (ExtendsByPart (K.taken sink.old) (K.taken sink.new) (bytes_of sectors.now)) }
+{
+    let mut left = sectors;
+    'sectors: while let Some((first, rest)) = left.split_first() {
+        match write_all(sink, &first.bytes) {
+            Ok(()) => left = rest,
+            Err(fault) => return Err(fault),
+        }
+    }
+    Ok(())
 }
 
 /// Writes all bytes.

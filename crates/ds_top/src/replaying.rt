@@ -6,24 +6,21 @@ ghost use Rattle.ds_script.specs.Answers.{IsScenarioText};
 ghost use Rattle.ds_top.specs.declared.commands.Command.{Command};
 ghost use Rattle.ds_top.specs.Causes.{IsRunnable};
 ghost use Rattle.ds_top.specs.Promise.{IsReplayOf};
-ghost use Rattle.ds_top.specs.Runs.{IsCaused, IsMade, IsRefused, IsMadeOf, IsRefusedOf};
+ghost use Rattle.ds_top.specs.Runs.{IsCaused, IsMade, IsRefused, IsMadeOf, IsRefusedOf, bytes_in};
 
-use crate::input::read_all;
+use crate::input::{MOST_BYTES, read_all};
 use crate::outcome::Why;
-use crate::output::Output;
+use crate::output::{Body, Output};
 use ds_base::{NoMemory, Source};
 use ds_script::read;
 use ds_tree::Scenario;
 use ds_world::{FirstWorld, Log, Moved, not_built};
 use std::alloc::Global;
 
-/// The most bytes of a scenario.
-const MOST_BYTES: usize = 1_048_576;
-
 /// Reads a scenario, and makes the report of its replay.
 pub(crate) fn read_and_replay<S: Source>(alloc: Global, source: &mut S) -> Result<Output, Why>
     ensures { MatchResult result
-        (λ it. IsMade Command.Replay (S.left source.old) (S.left source.new) it.why it.log it.text.items)
+        (λ it. IsMade Command.Replay (S.left source.old) (S.left source.new) it.why it.log (bytes_in it.body))
         (λ why. IsRefused Command.Replay (S.left source.old) (S.left source.new) (S.faults source.old) (S.faults source.new) why) }
 {
     match read_all(alloc, source, MOST_BYTES) {
@@ -35,7 +32,7 @@ pub(crate) fn read_and_replay<S: Source>(alloc: Global, source: &mut S) -> Resul
 /// The report of the replay of the scenario that these bytes are.
 fn replay_text(alloc: Global, bytes: &[u8]) -> Result<Output, Why>
     ensures { MatchResult result
-        (λ it. IsMadeOf Command.Replay bytes.now it.why it.log it.text.items)
+        (λ it. IsMadeOf Command.Replay bytes.now it.why it.log (bytes_in it.body))
         (λ why. IsRefusedOf Command.Replay bytes.now why) }
 {
     let scenario = match scenario_of(alloc, bytes) {
@@ -75,13 +72,13 @@ struct Replay {
 }
 
 fn report(it: Replay) -> Output
-    ensures { result ≡ record { why = Why.Done; log = Some it.log; text = it.text } }
+    ensures { result ≡ record { why = Why.Done; log = Some it.log; body = Body.Text it.text } }
 {
     let Replay { log, text } = it;
     Output {
         why: Why::Done,
         log: Some(log),
-        text,
+        body: Body::Text(text),
     }
 }
 

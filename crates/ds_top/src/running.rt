@@ -5,20 +5,24 @@ ghost use Rattle.ds_base.specs.Outside.{HasRisen};
 ghost use Rattle.ds_top.specs.Commands.{AskFor};
 ghost use Rattle.ds_top.specs.Causes.{Causes, CausesOutput, OrFree};
 ghost use Rattle.ds_top.specs.Outcomes.{status_of};
-ghost use Rattle.ds_top.specs.Promise.{IsRunOf, HasOutput, HasReadAll, IsRefusal};
-ghost use Rattle.ds_top.specs.Runs.{IsMade, IsRefused, Ends};
+ghost use Rattle.ds_top.specs.Promise.{IsRunOf, OfInput, IsFormatOn, IsCheckOn, IsListOn, HasOutput, HasReadAll, IsRefusal};
+ghost use Rattle.ds_top.specs.Runs.{IsMade, IsRefused, Ends, bytes_in};
 ghost use Rattle.ds_top.specs.declared.commands.Command.{Command};
 ghost use Rattle.ds_top.specs.declared.outcome.Why.{Why};
 
+use crate::checking::read_and_check;
 use crate::commands::Command;
+use crate::formatting::read_and_format;
+use crate::listing::read_and_list;
 use crate::outcome::{Outcome, Why, refused};
 use crate::output::{Output, written};
 use crate::replaying::read_and_replay;
 use ds_base::{Sink, Source};
 use std::alloc::Global;
 
-/// Runs the program on its words (those after its name), its input and its output. The word `replay` alone asks for the
-/// replay of the scenario that is read.
+/// Runs the program on its words (those after its name), its input and its output. `replay` reads a scenario and writes the
+/// report of its run, `format` reads the line of a volume and writes the sectors of the new volume, `check` reads an image and
+/// writes what is at odds in it, and `tree` writes the listing of its file tree instead where nothing is.
 pub fn plain<S: Source, K: Sink>(
     alloc: Global,
     words: &[String],
@@ -27,6 +31,13 @@ pub fn plain<S: Source, K: Sink>(
 ) -> Outcome
     ensures run { AskFor (map (λ w. string_bytes w) words.now) Command.Replay → HasOutput result.status
         → IsRunOf (S.left source.old) (S.left source.new) (K.taken sink.old) (K.taken sink.new) result.why result.log }
+    ensures formatted { AskFor (map (λ w. string_bytes w) words.now) Command.Format → HasOutput result.status
+        → OfInput (S.left source.old) (S.left source.new) (λ input. IsFormatOn input (K.taken sink.old) (K.taken sink.new) result.why) }
+    ensures checked { AskFor (map (λ w. string_bytes w) words.now) Command.Check → HasOutput result.status
+        → OfInput (S.left source.old) (S.left source.new) (λ input. IsCheckOn input (K.taken sink.old) (K.taken sink.new) result.why) }
+    ensures listed { AskFor (map (λ w. string_bytes w) words.now) Command.Tree → HasOutput result.status
+        → OfInput (S.left source.old) (S.left source.new) (λ input. IsListOn input (K.taken sink.old) (K.taken sink.new) result.why) }
+    ensures log { (AskFor (map (λ w. string_bytes w) words.now) Command.Replay → ⊥) → result.log ≡ None }
     ensures status { result.status ≡ status_of result.why }
 
     // When each outcome comes. The words and the bytes decide it, but for want of memory and for faults.
@@ -72,10 +83,13 @@ fn carried_out<S: Source, K: Sink>(
 /// Reads the input of a command, and makes its output.
 fn output_of<S: Source>(alloc: Global, command: Command, source: &mut S) -> Result<Output, Why>
     ensures { MatchResult result
-        (λ it. IsMade command (S.left source.old) (S.left source.new) it.why it.log it.text.items)
+        (λ it. IsMade command (S.left source.old) (S.left source.new) it.why it.log (bytes_in it.body))
         (λ why. IsRefused command (S.left source.old) (S.left source.new) (S.faults source.old) (S.faults source.new) why) }
 {
     match command {
         Command::Replay => read_and_replay(alloc, source),
+        Command::Format => read_and_format(alloc, source),
+        Command::Check => read_and_check(alloc, source),
+        Command::Tree => read_and_list(alloc, source),
     }
 }

@@ -42,10 +42,12 @@ fn each_outcome_has_its_status_and_text(rt: HostRuntime) -> Result<(), Fail> {
         (too_large(What::Volume), 1, "too large: volume"),
         (stuck(0, 12), 1, "stuck: host 0 at 12"),
         (not_built(1, 0), 1, "not built: host 1 at 0"),
+        (Why::BadImage { sector: 253 }, 1, "bad image: sector 253"),
         (Why::BadWords, 2, "bad words"),
         (Why::ReadFault, 3, "read fault"),
         (Why::WriteFault, 4, "write fault"),
         (Why::Memory, 5, "out of memory"),
+        (Why::Findings { count: 2 }, 6, "findings: 2"),
     ];
     for (why, status, text) in table {
         assert_eq!(rt; why.status(), status);
@@ -100,7 +102,7 @@ fn scenario_of(alloc: Global, lines: &str) -> Result<Vec<u8>, Fail> {
 
 /// How a run on these words and this input ends, and what it wrote. The calls of the source and of the sink with these
 /// numbers fail, and the sink has room for so many bytes.
-fn run_of(
+pub(crate) fn run_of(
     alloc: Global,
     words: &[&str],
     input: &[u8],
