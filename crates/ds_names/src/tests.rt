@@ -328,7 +328,10 @@ fn a_sector_that_fits_no_tree_is_odd(rt: HostRuntime) -> Result<(), Fail> {
         let entry = file(6).ok_or("no name")?;
         let call = lookup(&rt, ROOT, entry.name.bytes());
         let (_, end) = asked_of(&rt, rt.alloc(), &image, &call)?;
-        assert!(rt; matches!(end, Ask::Done(TreeReply::Found { .. })), "{wrong:?}");
+        assert!(rt;
+            matches!(end, Ask::Done(TreeReply::Found { .. })),
+            "{wrong:?}"
+        );
     }
     Ok(())
 }

@@ -85,7 +85,7 @@ dir_in g seen p dir b image t stands reads agrees is =
     let object : object_at t dir.object ≡ record { birth = b.birth; node = node_by q b b.kind } = object_in g image t dir.object (Some b) stands body in (
       body,
       object ∙ ap (λ (birth : ℕ). record { birth = birth; node = node_by q b b.kind }) is.sees.life
-      ∙ ap (λ (kind : Option NodeKind). record { birth = dir.birth; node = node_by q b kind }) is.sees.is_kind,
+          ∙ ap (λ (kind : Option NodeKind). record { birth = dir.birth; node = node_by q b kind }) is.sees.is_kind,
     )
 
 module _ (g : Geom) (call : CallOf Key) (dir : Key) (seen : SeenValue) (p : Parts) (reads : Reads g (look_of seen) p)
