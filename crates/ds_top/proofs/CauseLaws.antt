@@ -10,7 +10,7 @@ use Rattle.ds_script.specs.declared.faults.What.TheVariants.{Bytes, Hosts, Direc
 use Rattle.ds_script.specs.Answers.{IsAnswer, IsScenarioText, OrNoMemory}
 use Rattle.ds_top.specs.declared.commands.Command.TheVariants.{Replay}
 use Rattle.ds_top.specs.declared.outcome.Why.{Why}
-use Rattle.ds_top.specs.declared.outcome.Why.TheVariants.{Done, BadLine, TooLarge, Stuck, NotBuilt, BadWords, ReadFault, WriteFault, Memory}
+use Rattle.ds_top.specs.declared.outcome.Why.TheVariants.{Done, BadLine, TooLarge, Stuck, NotBuilt, BadWords, ReadFault}
 use Rattle.ds_top.specs.Causes.{IsRunnable, CausesReplay, IsFree, OrFree}
 use Rattle.ds_top.specs.Outcomes.{why_of_script}
 use Rattle.ds_top.specs.Promise.{IsRefusal}

@@ -1,8 +1,7 @@
 -- Which outcome an image causes, and that it causes no other.
-use Rattle.std.proofs.Common.{◌≡◌, ◌≢◌, ℕ, suc, ◌==◌, ◌≤◌, ◌<◌, ◌⊎◌, ⊎_elim, inl, inr, List, [], ◌∷◌, length, refl, sym, ap, subst, ◌∙◌, arith, cond, Option, Some, None}
+use Rattle.std.proofs.Common.{◌≡◌, ℕ, ◌<◌, ⊎_elim, inl, inr, List, [], ◌∷◌, length, refl, sym, ap, subst, ◌∙◌, arith, Option, Some, None}
 use Rattle.std.specs.Prelude.{Result, Ok, Err, IfSome, slice_get}
 use Rattle.ds_layout.specs.Volume.{IsVol, vol_bytes}
-use Rattle.ds_base.specs.Outside.{HasRisen}
 use Rattle.ds_base.specs.declared.sectors.Sector.{Sector}
 use Rattle.ds_world.specs.LogValues.{LogValue}
 use Rattle.ds_script.specs.declared.faults.What.TheVariants.{Bytes}
@@ -14,15 +13,14 @@ use Rattle.ds_check.specs.Texts.{report_text}
 use Rattle.ds_check.specs.Volumes.{IsBadImage}
 use Rattle.ds_top.specs.declared.commands.Command.TheVariants.{Check, Tree}
 use Rattle.ds_top.specs.declared.outcome.Why.{Why}
-use Rattle.ds_top.specs.declared.outcome.Why.TheVariants.{Done, TooLarge, BadImage, BadWords, ReadFault, Memory, Findings}
-use Rattle.ds_top.specs.Causes.{CausesCheck, IsOfImage, IsFree, OrFree, IsWritten}
-use Rattle.ds_top.specs.Edges.{IsReadWhole}
-use Rattle.ds_top.specs.Images.{IsImage, IsListing, CausesImage, HasBytesBehind, HasFindings, most_image_bytes, why_of_finds}
+use Rattle.ds_top.specs.declared.outcome.Why.TheVariants.{Done, TooLarge, BadImage, Memory, Findings}
+use Rattle.ds_top.specs.Causes.{CausesCheck, IsFree, OrFree, IsWritten}
+use Rattle.ds_top.specs.Images.{IsImage, IsListing, CausesImage, most_image_bytes, why_of_finds}
 use Rattle.ds_top.specs.Outcomes.{why_of_check}
-use Rattle.ds_top.specs.Promise.{OfInput, IsRefusal}
-use Rattle.ds_top.specs.Runs.{IsCaused, IsMade, IsRefused, IsCausedByImage, IsMadeOfImage, IsRefusedOfImage, AreFound, OfSectors, TellsFindings, TellsTree, StandVolume}
+use Rattle.ds_top.specs.Promise.{OfInput}
+use Rattle.ds_top.specs.Runs.{IsCaused, IsMade, IsRefused, IsCausedByImage, IsMadeOfImage, IsRefusedOfImage, AreFound, TellsFindings, TellsTree, StandVolume}
 use Rattle.ds_top.proofs.ImageLaws.{same_image}
-use Rattle.ds_top.proofs.RunLaws.{at_end, read_to_end}
+use Rattle.ds_top.proofs.RunLaws.{read_to_end}
 
 abbrev CheckResult : Type 0
 CheckResult = Result (List Find) CheckFault

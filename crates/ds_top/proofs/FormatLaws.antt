@@ -1,8 +1,7 @@
 -- Which outcome the text of a volume causes, and that it causes no other.
-use Rattle.std.proofs.Common.{◌≡◌, ℕ, ◌<◌, inl, inr, List, length, refl, sym, ap, arith}
+use Rattle.std.proofs.Common.{◌≡◌, ℕ, ◌<◌, inr, List, length, refl, ap, arith}
 use Rattle.std.specs.Prelude.{Result, Ok, Err}
 use Rattle.ds_base.specs.declared.geometry.Geom.{Geom}
-use Rattle.ds_image.specs.Formatted.{IsFormatted}
 use Rattle.ds_script.specs.declared.faults.ScriptFault.{ScriptFault}
 use Rattle.ds_script.specs.declared.faults.ScriptFault.TheVariants as scripts
 use Rattle.ds_script.specs.declared.faults.What.TheVariants.{Bytes, Hosts, Directives, Steps, Volume}

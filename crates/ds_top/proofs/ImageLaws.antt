@@ -1,14 +1,13 @@
 -- How bytes are cut into sectors, and how they are read sector by sector.
-use Rattle.std.proofs.Common.{◌≡◌, ◌≢◌, ℕ, zero, suc, ◌+◌, ◌-◌, ◌*◌, ◌≤◌, ◌<◌, List, [], ◌∷◌, ◌++◌, length, take, drop, refl, sym, ap, ◌∙◌, subst, append-nil, append_assoc, length-append, length-take-le, length-drop, take-add, take-take, take_at, drop_at, take_all, arith, Option, Some, None}
+use Rattle.std.proofs.Common.{◌≡◌, ◌≢◌, ℕ, ◌+◌, ◌-◌, ◌*◌, ◌≤◌, ◌<◌, List, [], ◌∷◌, ◌++◌, length, take, drop, refl, sym, ap, ◌∙◌, subst, append-nil, append_assoc, length-append, length-take-le, length-drop, take-add, take-take, take_at, drop_at, take_all, arith, Option}
 use Rattle.std.specs.Prelude.{IfSome}
-use Rattle.std.specs.List.{flat_map, AllByRecursion}
+use Rattle.std.specs.List.{AllByRecursion}
 use Rattle.std.proofs.lemmas.List.Concat.{flat_map-append}
 use Rattle.std.proofs.lemmas.Slice.{take-put_mid}
 use borrow.Rule.Slice.PartMut.{put_mid, same_len_mid}
 use Rattle.ds_base.specs.Outside.{Continues}
 use Rattle.ds_base.specs.declared.sectors.Sector.{Sector}
-use Rattle.ds_top.specs.Edges.{IsReadWhole}
-use Rattle.ds_top.specs.Images.{bytes_of, IsCut, IsImage, most_image_bytes}
+use Rattle.ds_top.specs.Images.{bytes_of, IsImage, most_image_bytes}
 use Rattle.ds_top.specs.Promise.{OfInput}
 use Rattle.ds_top.proofs.EdgeLaws.{Continues-nothing, Continues-more, IsReadWhole-at_end, more_was_left}
 

@@ -2,7 +2,7 @@
 use Rattle.std.proofs.Common.{◌≡◌, ℕ, ◌+◌, ◌≤◌, List, [], ◌∷◌, ◌++◌, length, take, refl, sym, ap, subst, ◌∙◌, append-nil, append_assoc, length-append, arith, Option}
 use Rattle.std.proofs.Math.Seq.{take-append-add}
 use Rattle.std.proofs.lemmas.List.{take-append-le}
-use Rattle.ds_base.specs.Outside.{Extends, HasRisen}
+use Rattle.ds_base.specs.Outside.{Extends}
 use Rattle.ds_base.specs.declared.sectors.Sector.{Sector}
 use Rattle.ds_top.specs.Edges.{ExtendsByPart}
 use Rattle.ds_top.specs.Images.{bytes_of}

@@ -11,7 +11,7 @@ use Rattle.ds_top.specs.declared.commands.Command.{Command}
 use Rattle.ds_top.specs.declared.commands.Command.TheVariants.{Replay, Format, Check, Tree}
 use Rattle.ds_top.specs.Images.{IsImage, CausesImage, most_image_bytes}
 use Rattle.ds_top.specs.declared.outcome.Why.{Why}
-use Rattle.ds_top.specs.declared.outcome.Why.TheVariants.{Done, BadLine, TooLarge, Stuck, NotBuilt, BadImage, BadWords, ReadFault, WriteFault, Memory, Findings}
+use Rattle.ds_top.specs.declared.outcome.Why.TheVariants.{Done, BadLine, TooLarge, Stuck, NotBuilt, ReadFault, WriteFault, Memory, Findings}
 
 -- the bytes are the text of this scenario, and it can be run now
 pub record IsRunnable (bytes : List ℕ) (s : Scenario) : Type 0 where

@@ -2,7 +2,6 @@ use Rattle.std.proofs.Common.{◌≡◌, ℕ, List, length, sym, subst, ◌∙�
 use Rattle.ds_base.specs.declared.sectors.Sector.{Sector}
 use Rattle.ds_top.specs.declared.outcome.Why.{Why}
 use Rattle.ds_top.specs.declared.outcome.Why.TheVariants.{BadImage}
-use Rattle.ds_top.specs.Outcomes.{why_of_check}
 use Rattle.ds_top.specs.Runs.{IsRefusedOfImage, AreFound}
 use Rattle.ds_top.proofs.CheckLaws.{are_found, behind_refused, check_refused}
 use Rattle.ds_top.proofs.checking.report_of.Goals as goal

@@ -1,7 +1,7 @@
-use Rattle.std.proofs.Common.{◌≡◌, ◌≢◌, ◌-◌, ◌+◌, ◌*◌, ℕ, ◌≤◌, ◌∷◌, [], ◌++◌, length, arith}
+use Rattle.std.proofs.Common.{◌≡◌, ◌≢◌, ◌-◌, ◌+◌, ◌*◌, ◌≤◌, length, arith}
 use Rattle.std.proofs.lemmas.Grind.{common_steps}
 use Rattle.std.proofs.lemmas.Bool.Decides.{nat_tests}
-use Rattle.ds_top.proofs.ImageLaws.{IsPartRead-start, IsPartRead-more, IsPartRead-next, too_many, image_of, within, count_within}
+use Rattle.ds_top.proofs.ImageLaws.{IsPartRead-more, IsPartRead-next, too_many, within, count_within}
 use Rattle.ds_top.proofs.image_input.read_image.Goals as goal
 
 pub returns-then-len-eq-MOST_SECTORS-clause-large :

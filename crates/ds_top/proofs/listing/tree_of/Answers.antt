@@ -1,4 +1,4 @@
-use Rattle.std.proofs.Common.{◌≡◌, ℕ, List, Option, Some, None, sym, ap, subst, ◌∙◌}
+use Rattle.std.proofs.Common.{◌≡◌, List, Option, sym, ap, subst, ◌∙◌}
 use Rattle.std.specs.Prelude.{MatchOption}
 use Rattle.ds_base.specs.Geometry.{IsGeom}
 use Rattle.ds_base.specs.declared.geometry.Geom.{Geom}
@@ -11,7 +11,6 @@ use Rattle.ds_image.specs.Logical.{IsLogical}
 use Rattle.ds_image.specs.ReadTrees.{StandsForNone}
 use Rattle.ds_image.specs.Sound.{StandsFor}
 use Rattle.ds_image.specs.declared.images.ImageFault.{ImageFault}
-use Rattle.ds_image.specs.declared.images.ImageFault.TheVariants.{Bad}
 use Rattle.ds_top.proofs.listing.tree_of.Goals as goal
 
 pub overlay-requires-clause-geom : goal.overlay-requires-clause-geom
