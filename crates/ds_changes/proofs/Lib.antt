@@ -22,10 +22,12 @@ pub mod Names
 pub mod NewBodies
 pub mod Puts
 pub mod Renamed
+pub mod RenamedTrees
 pub mod Spelling
 pub mod RightChanges
 pub mod StandsEmptied
 pub mod StandsFilled
 pub mod StandsGrown
+pub mod StandsRenamed
 pub mod Targets
 pub mod Rooms

@@ -1,5 +1,5 @@
 -- What a planner's change owes, from what it leaves and from the guards of its sectors.
-use Rattle.std.proofs.Common.{◌≡◌, ℕ, true, List, slice_get, get_or}
+use Rattle.std.proofs.Common.{◌≡◌, ℕ, true, List, slice_get}
 use Rattle.std.specs.Prelude.{All}
 use Rattle.ds_base.specs.declared.geometry.Geom.{Geom}
 use Rattle.ds_base.specs.declared.names.Key.{Key}

@@ -1,15 +1,14 @@
 -- An image from which an object and its entry went stands for the tree that the call leaves.
-use Rattle.std.proofs.Common.{◌≡◌, ℕ, ◌+◌, ◌<◌, Bool, false, List, [], ◌∷◌, ◌++◌, length, map, slice_get, slice_set, Option, Some, None, refl, sym, ap, subst, ◌∙◌, length-set, arith}
-use Rattle.std.specs.Prelude.{All, IsSome}
-use Rattle.std.proofs.lemmas.List.Elements.{All-head, All-tail}
-use Rattle.ds_base.specs.Geometry.{IsGeom, clusters_of}
+use Rattle.std.proofs.Common.{◌≡◌, ℕ, false, List, [], ◌∷◌, ◌++◌, length, map, slice_get, slice_set, Option, Some, refl, sym, subst, ◌∙◌, length-set, arith}
+use Rattle.std.specs.Prelude.{All}
+use Rattle.ds_base.specs.Geometry.{IsGeom}
 use Rattle.ds_base.specs.declared.geometry.Geom.{Geom}
 use Rattle.ds_base.specs.declared.geometry.Kind.{Kind}
 use Rattle.ds_base.specs.declared.geometry.Kind.TheVariants.{Fd, Sb, Pb, Fb}
 use Rattle.ds_base.specs.declared.names.Key.{Key}
 use Rattle.ds_base.specs.declared.sectors.Sector.{Sector}
 use Rattle.ds_bitmap.specs.Bits.{Bitmap, bits_bytes}
-use Rattle.ds_dir.specs.SubBlock.{IsSubBlock, sub_bytes}
+use Rattle.ds_dir.specs.SubBlock.{sub_bytes}
 use Rattle.ds_dir.specs.declared.sub_block.Entry.{Entry}
 use Rattle.ds_dir.specs.declared.sub_block.SubBlock.{SubBlock}
 use Rattle.ds_fd.specs.Body.{body_bytes}
@@ -22,13 +21,13 @@ use Rattle.ds_tree.specs.declared.calls.TreeReply.TheVariants.{Gone}
 use Rattle.ds_image.proofs.LaidOver.{length-laid_over, laid_over-append}
 use Rattle.ds_image.proofs.SoundParts.{each_kind}
 use Rattle.ds_image.specs.Logical.{laid_over}
-use Rattle.ds_image.specs.Objects.{subs_of, ptrs_of, blocks_of, tree_of}
+use Rattle.ds_image.specs.Objects.{subs_of, ptrs_of, blocks_of}
 use Rattle.ds_image.specs.Owned.{ClearsMarks}
-use Rattle.ds_image.specs.Parts.{Parts, part_at, AllSpelled, maps_of, bits_in}
+use Rattle.ds_image.specs.Parts.{Parts, AllSpelled, maps_of, bits_in}
 use Rattle.ds_image.specs.Pending.{Pair}
 use Rattle.ds_image.specs.Readings.{Reads}
 use Rattle.ds_image.specs.Sound.{StandsFor}
-use Rattle.ds_changes.specs.Changed.{with_maps, NewMap, IsNewMap, put_maps, map_pairs}
+use Rattle.ds_changes.specs.Changed.{NewMap, IsNewMap, put_maps, map_pairs}
 use Rattle.ds_changes.specs.Ending.{ReadyToRemove, Ended, remove_call}
 use Rattle.ds_changes.specs.Making.{Leaves}
 use Rattle.ds_changes.proofs.Bits.{all-put}
