@@ -58,7 +58,7 @@ rest-behind addresses count n = drop-set-lt (count + 1) addresses count n (omega
 rest-zero : (all count : ℕ) → drop {A = ℕ} 1 (replicate (all - count) 0) ≡ replicate (all - (count + 1)) 0
 rest-zero all count =
     let less : all - count - 1 ≡ all - (count + 1) = omega arith in
-    drop-replicate 1 (all - count) 0 ∙ ap (λ k. replicate k 0) less
+    subst (λ k. drop {A = ℕ} 1 (replicate (all - count) 0) ≡ replicate k 0) less (drop-replicate 1 (all - count) 0)
 
 rest-set : (addresses : List ℕ) (count n : ℕ) → drop count addresses ≡ replicate (96 - count) 0
     → drop (count + 1) (slice_set addresses count n) ≡ replicate (96 - (count + 1)) 0

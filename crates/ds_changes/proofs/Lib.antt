@@ -4,10 +4,12 @@ pub mod Emptied
 pub mod Entered
 pub mod EnteredTrees
 pub mod Filled
+pub mod FirstObjects
 pub mod FreeItems
 pub mod Frames
 pub mod Grown
 pub mod Granting
+pub mod GuardedEmptyings
 pub mod GuardedFills
 pub mod GuardedGrowths
 pub mod Guards
