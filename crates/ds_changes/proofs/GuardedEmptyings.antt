@@ -1,10 +1,9 @@
 -- Whoever holds the directory, the descriptor and the clusters holds the guards of all sectors that are written to take an object
 -- away, before and after.
-use Rattle.std.proofs.Common.{◌≡◌, ℕ, ◌<◌, List, [], ◌∷◌, ◌++◌, length, map, slice_get, Some, refl, sym, ap, subst, ◌∙◌}
+use Rattle.std.proofs.Common.{◌≡◌, ℕ, List, [], ◌∷◌, ◌++◌, length, slice_get, Some, sym, subst}
 use Rattle.std.specs.Prelude.{All}
 use Rattle.std.proofs.lemmas.List.{map-append}
 use Rattle.std.proofs.lemmas.List.Elements.{All-nil, All-cons, All-head, All-tail, All-append}
-use Rattle.ds_base.specs.Geometry.{IsGeom, items_of}
 use Rattle.ds_base.specs.declared.geometry.Geom.{Geom}
 use Rattle.ds_base.specs.declared.geometry.Kind.{Kind}
 use Rattle.ds_base.specs.declared.geometry.Kind.TheVariants.{Fd, Sb, Pb, Fb}
@@ -18,18 +17,17 @@ use Rattle.ds_layout.specs.Places.{cluster_lock, place_sector}
 use Rattle.ds_layout.specs.declared.places.Place.TheVariants as places
 use Rattle.ds_image.specs.Asking.{targets_of}
 use Rattle.ds_image.specs.Looks.{Look}
-use Rattle.ds_image.specs.Owns.{IsAt}
 use Rattle.ds_image.specs.Parts.{Parts, part_at}
 use Rattle.ds_image.specs.Pending.{Pair}
 use Rattle.ds_image.specs.Readings.{Reads}
-use Rattle.ds_image.specs.Sound.{StandsFor, IsSound}
+use Rattle.ds_image.specs.Sound.{IsSound}
 use Rattle.ds_changes.specs.Changed.{NewMap, IsNewMap, map_pairs}
 use Rattle.ds_changes.specs.Ending.{ReadyToRemove}
 use Rattle.ds_changes.specs.Guarded.{GuardedBy}
 use Rattle.ds_changes.proofs.Guards.{guard-body, guard-map, guard-sub_listed}
 use Rattle.ds_changes.proofs.Listed.{listed-in}
+use Rattle.ds_changes.specs.Redos.{emptied_pairs}
 use Rattle.ds_changes.proofs.Spelling.{body-at, map-at, sub-at}
-use Rattle.ds_changes.proofs.StandsEmptied.{emptied-pairs}
 
 -- the clusters' bitmaps of a kind, where each of these clusters is held
 pub maps-guarded : (g : Geom) (look : Look) (q : Parts) (Held : ℕ → Type 0) (kind : Kind) (count : ℕ) (writes : List NewMap) → Reads g look q → All (IsNewMap g kind count) writes
@@ -58,7 +56,7 @@ module _ (g : Geom) (image : List Sector) (p : Parts) (reads : Reads g (slice_ge
     (held_blocks : All (λ (w : NewMap). Held (cluster_lock Fb w.cluster)) block_writes) where
   -- in the image before, and in one after in which the directory has its body
   pub emptied-guarded : (look : Look) (q : Parts) → Reads g look q → IsSound q → part_at q.bodies key.object ≡ Some dir → (map_sector gone_sector block_sector : Sector)
-      → All (GuardedBy g look Held) (targets_of (emptied-pairs g c o n map_sector sub_writes ptr_writes block_writes gone_sector block_sector))
+      → All (GuardedBy g look Held) (targets_of (emptied_pairs g c o n map_sector sub_writes ptr_writes block_writes gone_sector block_sector))
   emptied-guarded look q reads' sound there map_sector gone_sector block_sector =
       let Is = GuardedBy g look Held in
       let a : ℕ = place_sector g (places.Bitmap Fd c) in
@@ -70,10 +68,10 @@ module _ (g : Geom) (image : List Sector) (p : Parts) (reads : Reads g (slice_ge
       let listed = listed-in q key.object ready.empties.place n dir there ready.directory.kind_is ready.empties.listed in
       let last_pairs : List Pair = (b, gone_sector) ∷ (s, block_sector) ∷ [] in
       let last = All-cons Is b (s ∷ []) (record { object = o; guards = guard-body g look q reads' o object; held = held_object })
-          (All-cons Is s [] (record { object = key.object; guards = guard-sub_listed g look q reads' key.object ready.empties.place n sub sound.sub_owners listed; held = held_dir }) (All-nil Is)) in
+      (All-cons Is s [] (record { object = key.object; guards = guard-sub_listed g look q reads' key.object ready.empties.place n sub sound.sub_owners listed; held = held_dir }) (All-nil Is)) in
       let blocks = targets-append Is (map_pairs g Fb block_writes) last_pairs (maps-guarded g look q Held Fb (length image) block_writes reads' block_maps held_blocks) last in
       let ptrs = targets-append Is (map_pairs g Pb ptr_writes) (map_pairs g Fb block_writes ++ last_pairs) (maps-guarded g look q Held Pb (length image) ptr_writes reads' ptr_maps held_ptrs) blocks in
       let subs = targets-append Is (map_pairs g Sb sub_writes) (map_pairs g Pb ptr_writes ++ (map_pairs g Fb block_writes ++ last_pairs))
-          (maps-guarded g look q Held Sb (length image) sub_writes reads' sub_maps held_subs) ptrs in
+      (maps-guarded g look q Held Sb (length image) sub_writes reads' sub_maps held_subs) ptrs in
       All-cons Is a (targets_of (map_pairs g Sb sub_writes ++ (map_pairs g Pb ptr_writes ++ (map_pairs g Fb block_writes ++ last_pairs))))
       (record { object = cluster_lock Fd c; guards = guard-map g look q reads' Fd c cluster; held = held_cluster }) subs

@@ -1,5 +1,5 @@
 -- An image from which an object and its entry went stands for the tree that the call leaves.
-use Rattle.std.proofs.Common.{◌≡◌, ℕ, false, List, [], ◌∷◌, ◌++◌, length, map, slice_get, slice_set, Option, Some, refl, sym, subst, ◌∙◌, length-set, arith}
+use Rattle.std.proofs.Common.{◌≡◌, ℕ, false, List, [], ◌∷◌, ◌++◌, length, slice_get, slice_set, Option, Some, refl, sym, subst, ◌∙◌, length-set, arith}
 use Rattle.std.specs.Prelude.{All}
 use Rattle.ds_base.specs.Geometry.{IsGeom}
 use Rattle.ds_base.specs.declared.geometry.Geom.{Geom}
@@ -35,26 +35,9 @@ use Rattle.ds_changes.proofs.Emptied.{leaves-emptied}
 use Rattle.ds_changes.proofs.Frames.{reads-body, reads-map, reads-sub}
 use Rattle.ds_changes.proofs.Leaving.{leaves-left}
 use Rattle.ds_changes.proofs.MapFrames.{reads-maps}
+use Rattle.ds_changes.specs.ChangedParts.{emptied}
+use Rattle.ds_changes.specs.Redos.{emptied_pairs}
 use Rattle.ds_changes.proofs.Spelling.{body-at, map-at, sub-at, set-bits, emptied-is_sub}
-
--- the sectors of the redo, in their order: what of the object's items was given up stands between the bitmap and the body
-abbrev pub emptied-pairs : Geom → ℕ → ℕ → ℕ → Sector → List NewMap → List NewMap → List NewMap → Sector → Sector → List Pair
-emptied-pairs g c o n map_sector sub_writes ptr_writes block_writes gone_sector block_sector =
-    (place_sector g (places.Bitmap Fd c), map_sector)
-    ∷ (map_pairs g Sb sub_writes ++ (map_pairs g Pb ptr_writes ++ (map_pairs g Fb block_writes
-    ++ (place_sector g (places.Body o), gone_sector) ∷ (place_sector g (places.SubBlock n), block_sector) ∷ [])))
-
--- the parts with all these in the places of others
-abbrev pub emptied : Parts → ℕ → ℕ → ℕ → Bitmap → List NewMap → List NewMap → List NewMap → Body → SubBlock → Parts
-emptied p c o n map sub_writes ptr_writes block_writes gone block = record {
-  bodies = slice_set p.bodies o (Some gone);
-  fd_maps = slice_set p.fd_maps c (Some map);
-  sb_maps = put_maps p.sb_maps sub_writes;
-  pb_maps = put_maps p.pb_maps ptr_writes;
-  fb_maps = put_maps p.fb_maps block_writes;
-  subs = slice_set p.subs n (Some block);
-  ptrs = p.ptrs;
-}
 
 all-put_maps : (maps : List (Option Bitmap)) (writes : List NewMap) → AllSpelled maps → AllSpelled (put_maps maps writes)
 all-put_maps maps [] all = all
@@ -77,7 +60,7 @@ module _ (g : Geom) (is : IsGeom g) (image : List Sector) (t : FileTree) (stands
   parts-after = emptied p c o n map' sub_writes ptr_writes block_writes gone block
 
   abbrev pub after : List Sector
-  after = laid_over image (emptied-pairs g c o n map_sector sub_writes ptr_writes block_writes gone_sector block_sector)
+  after = laid_over image (emptied_pairs g c o n map_sector sub_writes ptr_writes block_writes gone_sector block_sector)
 
   abbrev first : List Sector
   first = slice_set image (place_sector g (places.Bitmap Fd c)) map_sector

@@ -1,6 +1,6 @@
 -- An image in which an entry has another name in its directory stands for the tree that the call leaves, and the directory guards
 -- the sector before and after.
-use Rattle.std.proofs.Common.{◌≡◌, ℕ, ◌<◌, List, [], ◌∷◌, slice_get, slice_set, Some, sym, ap, subst, arith}
+use Rattle.std.proofs.Common.{◌≡◌, ℕ, ◌<◌, List, [], slice_get, slice_set, Some, sym, ap, subst, arith}
 use Rattle.std.specs.Prelude.{All}
 use Rattle.std.proofs.lemmas.List.Elements.{All-nil, All-cons}
 use Rattle.ds_base.specs.Geometry.{IsGeom, items_of}
@@ -24,7 +24,6 @@ use Rattle.ds_image.specs.Logical.{laid_over}
 use Rattle.ds_image.specs.Objects.{tree_of}
 use Rattle.ds_image.specs.Looks.{Look}
 use Rattle.ds_image.specs.Parts.{Parts, part_at}
-use Rattle.ds_image.specs.Pending.{Pair}
 use Rattle.ds_image.specs.Readings.{Reads}
 use Rattle.ds_image.specs.Sound.{StandsFor, IsSound}
 use Rattle.ds_changes.specs.Guarded.{GuardedBy}
@@ -35,11 +34,8 @@ use Rattle.ds_changes.proofs.Guards.{guard-sub_listed}
 use Rattle.ds_changes.proofs.Listed.{listed-in}
 use Rattle.ds_changes.proofs.Renamed.{renamed-sound}
 use Rattle.ds_changes.proofs.RenamedTrees.{leaves-renamed}
+use Rattle.ds_changes.specs.Redos.{renamed_pairs}
 use Rattle.ds_changes.proofs.Spelling.{sub-at, set-is_sub}
-
--- the one sector of the redo
-abbrev pub renamed-pairs : Geom → ℕ → Sector → List Pair
-renamed-pairs g n block_sector = (place_sector g (places.SubBlock n), block_sector) ∷ []
 
 module _ (g : Geom) (is : IsGeom g) (image : List Sector) (t : FileTree) (stands : StandsFor g image t) (key to : Key) (dir : Body) (e fresh : Entry) (n : ℕ) (block : SubBlock)
     (ready : ReadyToRename stands.parts key to dir e fresh n block) (block_sector : Sector) (spells_block : block_sector.bytes ≡ sub_bytes block) where
@@ -50,7 +46,7 @@ module _ (g : Geom) (is : IsGeom g) (image : List Sector) (t : FileTree) (stands
   tree = subst (IsTree g) stands.tree stands.is_tree
 
   abbrev pub after : List Sector
-  after = laid_over image (renamed-pairs g n block_sector)
+  after = laid_over image (renamed_pairs g n block_sector)
 
   abbrev pub parts-after : Parts
   parts-after = record p { subs = slice_set p.subs n (Some block) }
@@ -84,15 +80,15 @@ module _ (g : Geom) (is : IsGeom g) (image : List Sector) (t : FileTree) (stands
 
   module _ (Held : ℕ → Type 0) (held_dir : Held key.object) where
     guarded : (look : Look) (q : Parts) → Reads g look q → IsSound q → part_at q.bodies key.object ≡ Some dir
-        → All (GuardedBy g look Held) (targets_of (renamed-pairs g n block_sector))
+        → All (GuardedBy g look Held) (targets_of (renamed_pairs g n block_sector))
     guarded look q reads sound there =
         let at = listed-in q key.object ready.replaces.place n dir there ready.directory.kind_is ready.replaces.listed in
         All-cons (GuardedBy g look Held) (place_sector g (places.SubBlock n)) []
         (record { object = key.object; guards = guard-sub_listed g look q reads key.object ready.replaces.place n n-within sound.sub_owners at; held = held_dir })
         (All-nil (GuardedBy g look Held))
 
-    pub renamed-guarded_before : All (GuardedBy g (slice_get image) Held) (targets_of (renamed-pairs g n block_sector))
+    pub renamed-guarded_before : All (GuardedBy g (slice_get image) Held) (targets_of (renamed_pairs g n block_sector))
     renamed-guarded_before = guarded (slice_get image) p stands.reads stands.sound ready.directory.there
 
-    pub renamed-guarded_after : All (GuardedBy g (slice_get after) Held) (targets_of (renamed-pairs g n block_sector))
+    pub renamed-guarded_after : All (GuardedBy g (slice_get after) Held) (targets_of (renamed_pairs g n block_sector))
     renamed-guarded_after = guarded (slice_get after) parts-after renamed-reads (renamed-sound g p stands.sound tree key to dir e fresh n block ready) ready.directory.there
