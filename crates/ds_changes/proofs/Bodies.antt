@@ -52,16 +52,17 @@ below-set limit xs i n small within below k = elim (cases_eq k i) [
 ]
 
 -- behind one address more the others are zero still
+rest-behind : (addresses : List ℕ) (count n : ℕ) → drop (count + 1) (slice_set addresses count n) ≡ drop 1 (drop count addresses)
+rest-behind addresses count n = drop-set-lt (count + 1) addresses count n (omega arith) ∙ sym (drop-drop 1 count addresses)
+
+rest-zero : (all count : ℕ) → drop {A = ℕ} 1 (replicate (all - count) 0) ≡ replicate (all - (count + 1)) 0
+rest-zero all count =
+    let less : all - count - 1 ≡ all - (count + 1) = omega arith in
+    subst (λ k. drop {A = ℕ} 1 (replicate (all - count) 0) ≡ replicate k 0) less (drop-replicate 1 (all - count) 0)
+
 rest-set : (addresses : List ℕ) (count n : ℕ) → drop count addresses ≡ replicate (96 - count) 0
     → drop (count + 1) (slice_set addresses count n) ≡ replicate (96 - (count + 1)) 0
-rest-set addresses count n before =
-    let less : 96 - count - 1 ≡ 96 - (count + 1) = omega arith in
-    let kept : drop (count + 1) (slice_set addresses count n) ≡ drop (count + 1) addresses = drop-set-lt (count + 1) addresses count n (omega arith) in
-    let behind : drop (count + 1) addresses ≡ drop 1 (drop count addresses) = sym (drop-drop 1 count addresses) in
-    let cleared : drop 1 (drop count addresses) ≡ drop 1 (replicate (96 - count) 0) = ap (drop 1) before in
-    let fewer : drop 1 (replicate (96 - count) 0) ≡ replicate (96 - count - 1) 0 = drop-replicate 1 (96 - count) 0 in
-    let same : replicate (96 - count - 1) 0 ≡ replicate (96 - (count + 1)) 0 = ap (λ k. replicate k 0) less in
-    kept ∙ behind ∙ cleared ∙ fewer ∙ same
+rest-set addresses count n before = rest-behind addresses count n ∙ ap (drop 1) before ∙ rest-zero 96 count
 
 -- such a body is one, where there was an address left
 pub grown-is_body : (b dir : Body) (n : ℕ) → IsBody dir → dir.kind ≡ Some kinds.Dir → dir.count < 96 → n < 2 ^ 32 → IsGrownBody b dir n → IsBody b

@@ -4,10 +4,12 @@ pub mod Emptied
 pub mod Entered
 pub mod EnteredTrees
 pub mod Filled
+pub mod FirstObjects
 pub mod FreeItems
 pub mod Frames
 pub mod Grown
 pub mod Granting
+pub mod GuardedEmptyings
 pub mod GuardedFills
 pub mod GuardedGrowths
 pub mod Guards
@@ -22,10 +24,12 @@ pub mod Names
 pub mod NewBodies
 pub mod Puts
 pub mod Renamed
+pub mod RenamedTrees
 pub mod Spelling
 pub mod RightChanges
 pub mod StandsEmptied
 pub mod StandsFilled
 pub mod StandsGrown
+pub mod StandsRenamed
 pub mod Targets
 pub mod Rooms

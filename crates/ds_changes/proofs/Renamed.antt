@@ -1,44 +1,31 @@
 -- An entry has another name in its directory: the parts agree, and spell the tree that the call leaves.
-use Rattle.std.proofs.Common.{◌≡◌, ◌≢◌, ℕ, ◌+◌, ◌*◌, ◌<◌, ◌==◌, ◌&&◌, cond, Bool, true, false, if◌then◌else◌, List, [], ◌∷◌, length, map, get_or, slice_get, slice_set, Option, Some, None, IsSome, is_some, MatchOption, inl, inr, refl, sym, ap, subst, ◌∙◌, eq-eqb, length-set, get_or-set_same, get_or-set_other, set-set, arith}
-use Rattle.std.specs.Prelude.{All, not}
+use Rattle.std.proofs.Common.{◌≡◌, ◌≢◌, ℕ, ◌+◌, ◌<◌, cond, Bool, true, false, List, ◌∷◌, length, get_or, slice_get, slice_set, Option, Some, None, inl, inr, refl, sym, ap, subst, ◌∙◌, get_or-set_same, get_or-set_other, set-set}
+use Rattle.std.specs.Prelude.{All}
 use Rattle.std.specs.Cmp.Lexicographic.{slice_cmp, nat_list_cmp_total}
 use Rattle.std.specs.FinMap as maps
 use Rattle.std.specs.Ordering.{nat_cmp, is_eq}
-use Rattle.std.proofs.lemmas.Bool.{cases_eq, cases_Bool}
-use Rattle.std.proofs.lemmas.List.{ext_get_or, get_or-map, length-map}
+use Rattle.std.proofs.lemmas.Bool.{cases_eq}
 use Rattle.std.proofs.lemmas.Option.{slice_get_within}
 use Rattle.ds_base.specs.declared.geometry.Geom.{Geom}
 use Rattle.ds_base.specs.declared.names.Key.{Key}
-use Rattle.ds_base.specs.declared.sectors.Sector.{Sector}
 use Rattle.ds_dir.specs.declared.sub_block.Entry.{Entry}
 use Rattle.ds_dir.specs.declared.sub_block.SubBlock.{SubBlock}
 use Rattle.ds_fd.specs.declared.body.Body.{Body}
-use Rattle.ds_tree.proofs.StepKeeps.{step-keeps}
-use Rattle.ds_tree.specs.Nodes.{Entries, Node, Dir, Object, FileTree, unborn, object_at, node_at, birth_at, node_of_key, with_node}
-use Rattle.ds_tree.specs.Steps.{is_dir, entry_node, refusal, in_dir, refuses_rename, Renames, Succeeds, Does, rooms_with_one_more}
+use Rattle.ds_tree.specs.Nodes.{Entries}
 use Rattle.ds_tree.specs.WellFormed.{IsTree}
-use Rattle.ds_tree.specs.declared.calls.CallOf.TheVariants.{Rename}
-use Rattle.ds_tree.specs.declared.calls.TreeReply.TheVariants.{Moved}
-use Rattle.ds_image.proofs.EntryNames.{find-at, get-entries}
 use Rattle.ds_image.proofs.Places.{at-append_right}
 use Rattle.ds_image.proofs.Sizes.{part_within}
-use Rattle.ds_image.proofs.SoundParts.{all-at, all-from_at, sound-from, objects-of, marked-of}
-use Rattle.ds_image.proofs.TreeParts.{object-is, objects-are}
-use Rattle.ds_image.specs.Objects.{subs_by, node_by, rooms_in, subs_of, used_rooms, object_of, tree_of, entries_of}
+use Rattle.ds_image.proofs.SoundParts.{all-from_at, sound-from, objects-of}
+use Rattle.ds_image.specs.Objects.{subs_by, rooms_in, subs_of, used_rooms, tree_of, entries_of}
 use Rattle.ds_image.specs.Parts.{Parts, part_at}
-use Rattle.ds_image.specs.Readings.{Reads}
 use Rattle.ds_image.specs.Sound.{IsSound, IsNamedRight}
 use Rattle.ds_image.specs.SoundObjects.{AreNamesApart, IsSoundObject}
 use Rattle.ds_changes.specs.Entering.{subs_in}
-use Rattle.ds_changes.specs.Making.{Leaves}
 use Rattle.ds_changes.specs.Puts.{IsPut}
 use Rattle.ds_changes.specs.Renaming.{ReadyToRename}
-use Rattle.ds_changes.proofs.EnteredTrees.{dir-object}
 use Rattle.ds_changes.proofs.Frames.{slice_get-set_same}
-use Rattle.ds_changes.proofs.Granting.{key-node}
 use Rattle.ds_changes.proofs.Listed.{listed-by, listed-in, part-put}
 use Rattle.ds_changes.proofs.Names.{by_name, by_name-put, by_name-taken, apart-put, apart-taken}
-use Rattle.ds_changes.proofs.NewBodies.{object-same}
 use Rattle.ds_changes.proofs.Puts.{in_use, put-at, put-kept, put-room, put-room_back}
 use Rattle.ds_changes.proofs.Rooms.{used_in, used-same, used-put}
 
@@ -102,13 +89,13 @@ module _ (g : Geom) (p : Parts) (sound : IsSound p) (tree : IsTree g (tree_of p)
       (subst (λ rooms. IsPut fresh (in_use bare.rooms) (in_use rooms)) (set-set ready.replaces.before.rooms ready.replaces.room None (Some fresh) ∙ sym ready.replaces.replaced)
       (put-room fresh bare.rooms ready.replaces.room bare-free))))
 
-  elsewhere : (k : ℕ) → k ≢ d → used_rooms q (subs_of (part_at p.bodies k)) ≡ used_rooms p (subs_of (part_at p.bodies k))
+  pub elsewhere : (k : ℕ) → k ≢ d → used_rooms q (subs_of (part_at p.bodies k)) ≡ used_rooms p (subs_of (part_at p.bodies k))
   elsewhere k other = used-same p q (subs_of (part_at p.bodies k)) (λ i j at. other-sub block j (not-there k i j at other))
 
   dir-subs : subs_of (part_at p.bodies d) ≡ subs
   dir-subs = ap subs_of ready.directory.there ∙ ap (subs_by dir) ready.directory.kind_is
 
-  dir-apart : AreNamesApart (used_rooms p subs)
+  pub dir-apart : AreNamesApart (used_rooms p subs)
   dir-apart = subst (λ l. AreNamesApart (used_rooms p l)) dir-subs (sound.names d)
 
   abbrev pub entries : Entries
@@ -126,19 +113,19 @@ module _ (g : Geom) (p : Parts) (sound : IsSound p) (tree : IsTree g (tree_of p)
       same-either true = refl
       same-either false = refl
 
-  given-entries : entries_of q subs ≡ maps.insert (maps.remove entries e.name) fresh.name fresh.key.object
+  pub given-entries : entries_of q subs ≡ maps.insert (maps.remove entries e.name) fresh.name fresh.key.object
   given-entries = by_name-put fresh (used_rooms m subs) (used_rooms q subs) given absent ∙ ap (λ (x : Entries). maps.insert x fresh.name fresh.key.object) less-is
 
   still-named : (x : Entry) → IsNamedRight p x → IsNamedRight q x
   still-named x named = record { body = named.body; there = named.there; birth = named.birth; kind = named.kind }
 
-  entry-there : (i : ℕ) × (slice_get (used_rooms p subs) i ≡ Some e)
+  pub entry-there : (i : ℕ) × (slice_get (used_rooms p subs) i ≡ Some e)
   entry-there = (length taken.front + 0, ap (λ l. slice_get l (length taken.front + 0)) taken.put_in ∙ at-append_right taken.front (e ∷ taken.back) 0 e refl)
 
   named-at : (i : ℕ) (x : Entry) → slice_get (used_rooms p subs) i ≡ Some x → IsNamedRight p x
   named-at i x at = sound.entries d i x (ap (λ l. slice_get (used_rooms p l) i) dir-subs ∙ at)
 
-  old-named : IsNamedRight p e
+  pub old-named : IsNamedRight p e
   old-named = named-at entry-there.0 e entry-there.1
 
   fresh-named : IsNamedRight q fresh

@@ -1,5 +1,5 @@
 -- What a planner's change owes, from what it leaves and from the guards of its sectors.
-use Rattle.std.proofs.Common.{◌≡◌, ℕ, true, List, slice_get, get_or}
+use Rattle.std.proofs.Common.{ℕ, List, slice_get}
 use Rattle.std.specs.Prelude.{All}
 use Rattle.ds_base.specs.declared.geometry.Geom.{Geom}
 use Rattle.ds_base.specs.declared.names.Key.{Key}
@@ -10,13 +10,9 @@ use Rattle.ds_tree.specs.declared.calls.TreeReply.{TreeReply}
 use Rattle.ds_image.specs.Asking.{IsGuarded, IsRightChange, targets_of}
 use Rattle.ds_image.specs.Logical.{laid_over}
 use Rattle.ds_image.specs.Pending.{Pair}
-use Rattle.ds_image.specs.SeenValues.{SeenValue, has_lock}
-use Rattle.ds_changes.specs.Guarded.{GuardedBy}
+use Rattle.ds_image.specs.SeenValues.{SeenValue}
+use Rattle.ds_changes.specs.Guarded.{GuardedBy, HoldsLock}
 use Rattle.ds_changes.specs.Making.{Leaves}
-
--- the call holds this lock object
-abbrev pub HoldsLock : SeenValue → ℕ → Type 0
-HoldsLock seen object = has_lock seen object ≡ true
 
 all-guarded : (g : Geom) (seen : SeenValue) (image : List Sector) (targets : List ℕ) → All (GuardedBy g (slice_get image) (HoldsLock seen)) targets
     → All (IsGuarded g seen image) targets

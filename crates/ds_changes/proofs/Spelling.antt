@@ -64,7 +64,7 @@ module _ (g : Geom) (image : List Sector) (p : Parts) (reads : Reads g (slice_ge
         | inr other ↦ subst IsRoom (sym (get_or-set_other rooms j i room d other)) (all i d within)
       ]
 
-  set-is_sub : (n j : ℕ) (room : Option Entry) (before after : SubBlock) → IsRoom room → part_at p.subs n ≡ Some before
+  pub set-is_sub : (n j : ℕ) (room : Option Entry) (before after : SubBlock) → IsRoom room → part_at p.subs n ≡ Some before
       → after.rooms ≡ slice_set before.rooms j room → IsSubBlock after
   set-is_sub n j room before after fits there changed =
       let was : IsSubBlock before = ((reads.subs.each n (sub-at n before there).0 before).0 there).0 in

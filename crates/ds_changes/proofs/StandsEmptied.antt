@@ -1,15 +1,14 @@
 -- An image from which an object and its entry went stands for the tree that the call leaves.
-use Rattle.std.proofs.Common.{◌≡◌, ℕ, ◌+◌, ◌<◌, Bool, false, List, [], ◌∷◌, ◌++◌, length, map, slice_get, slice_set, Option, Some, None, refl, sym, ap, subst, ◌∙◌, length-set, arith}
-use Rattle.std.specs.Prelude.{All, IsSome}
-use Rattle.std.proofs.lemmas.List.Elements.{All-head, All-tail}
-use Rattle.ds_base.specs.Geometry.{IsGeom, clusters_of}
+use Rattle.std.proofs.Common.{◌≡◌, ℕ, false, List, [], ◌∷◌, ◌++◌, length, slice_get, slice_set, Option, Some, refl, sym, subst, ◌∙◌, length-set, arith}
+use Rattle.std.specs.Prelude.{All}
+use Rattle.ds_base.specs.Geometry.{IsGeom}
 use Rattle.ds_base.specs.declared.geometry.Geom.{Geom}
 use Rattle.ds_base.specs.declared.geometry.Kind.{Kind}
 use Rattle.ds_base.specs.declared.geometry.Kind.TheVariants.{Fd, Sb, Pb, Fb}
 use Rattle.ds_base.specs.declared.names.Key.{Key}
 use Rattle.ds_base.specs.declared.sectors.Sector.{Sector}
 use Rattle.ds_bitmap.specs.Bits.{Bitmap, bits_bytes}
-use Rattle.ds_dir.specs.SubBlock.{IsSubBlock, sub_bytes}
+use Rattle.ds_dir.specs.SubBlock.{sub_bytes}
 use Rattle.ds_dir.specs.declared.sub_block.Entry.{Entry}
 use Rattle.ds_dir.specs.declared.sub_block.SubBlock.{SubBlock}
 use Rattle.ds_fd.specs.Body.{body_bytes}
@@ -22,13 +21,13 @@ use Rattle.ds_tree.specs.declared.calls.TreeReply.TheVariants.{Gone}
 use Rattle.ds_image.proofs.LaidOver.{length-laid_over, laid_over-append}
 use Rattle.ds_image.proofs.SoundParts.{each_kind}
 use Rattle.ds_image.specs.Logical.{laid_over}
-use Rattle.ds_image.specs.Objects.{subs_of, ptrs_of, blocks_of, tree_of}
+use Rattle.ds_image.specs.Objects.{subs_of, ptrs_of, blocks_of}
 use Rattle.ds_image.specs.Owned.{ClearsMarks}
-use Rattle.ds_image.specs.Parts.{Parts, part_at, AllSpelled, maps_of, bits_in}
+use Rattle.ds_image.specs.Parts.{Parts, AllSpelled, maps_of, bits_in}
 use Rattle.ds_image.specs.Pending.{Pair}
 use Rattle.ds_image.specs.Readings.{Reads}
 use Rattle.ds_image.specs.Sound.{StandsFor}
-use Rattle.ds_changes.specs.Changed.{with_maps, NewMap, IsNewMap, put_maps, map_pairs}
+use Rattle.ds_changes.specs.Changed.{NewMap, IsNewMap, put_maps, map_pairs}
 use Rattle.ds_changes.specs.Ending.{ReadyToRemove, Ended, remove_call}
 use Rattle.ds_changes.specs.Making.{Leaves}
 use Rattle.ds_changes.proofs.Bits.{all-put}
@@ -36,26 +35,9 @@ use Rattle.ds_changes.proofs.Emptied.{leaves-emptied}
 use Rattle.ds_changes.proofs.Frames.{reads-body, reads-map, reads-sub}
 use Rattle.ds_changes.proofs.Leaving.{leaves-left}
 use Rattle.ds_changes.proofs.MapFrames.{reads-maps}
+use Rattle.ds_changes.specs.ChangedParts.{emptied}
+use Rattle.ds_changes.specs.Redos.{emptied_pairs}
 use Rattle.ds_changes.proofs.Spelling.{body-at, map-at, sub-at, set-bits, emptied-is_sub}
-
--- the sectors of the redo, in their order: what of the object's items was given up stands between the bitmap and the body
-abbrev pub emptied-pairs : Geom → ℕ → ℕ → ℕ → Sector → List NewMap → List NewMap → List NewMap → Sector → Sector → List Pair
-emptied-pairs g c o n map_sector sub_writes ptr_writes block_writes gone_sector block_sector =
-    (place_sector g (places.Bitmap Fd c), map_sector)
-    ∷ (map_pairs g Sb sub_writes ++ (map_pairs g Pb ptr_writes ++ (map_pairs g Fb block_writes
-    ++ (place_sector g (places.Body o), gone_sector) ∷ (place_sector g (places.SubBlock n), block_sector) ∷ [])))
-
--- the parts with all these in the places of others
-abbrev pub emptied : Parts → ℕ → ℕ → ℕ → Bitmap → List NewMap → List NewMap → List NewMap → Body → SubBlock → Parts
-emptied p c o n map sub_writes ptr_writes block_writes gone block = record {
-  bodies = slice_set p.bodies o (Some gone);
-  fd_maps = slice_set p.fd_maps c (Some map);
-  sb_maps = put_maps p.sb_maps sub_writes;
-  pb_maps = put_maps p.pb_maps ptr_writes;
-  fb_maps = put_maps p.fb_maps block_writes;
-  subs = slice_set p.subs n (Some block);
-  ptrs = p.ptrs;
-}
 
 all-put_maps : (maps : List (Option Bitmap)) (writes : List NewMap) → AllSpelled maps → AllSpelled (put_maps maps writes)
 all-put_maps maps [] all = all
@@ -78,7 +60,7 @@ module _ (g : Geom) (is : IsGeom g) (image : List Sector) (t : FileTree) (stands
   parts-after = emptied p c o n map' sub_writes ptr_writes block_writes gone block
 
   abbrev pub after : List Sector
-  after = laid_over image (emptied-pairs g c o n map_sector sub_writes ptr_writes block_writes gone_sector block_sector)
+  after = laid_over image (emptied_pairs g c o n map_sector sub_writes ptr_writes block_writes gone_sector block_sector)
 
   abbrev first : List Sector
   first = slice_set image (place_sector g (places.Bitmap Fd c)) map_sector

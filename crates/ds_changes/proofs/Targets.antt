@@ -1,4 +1,4 @@
--- The sectors that are written to make an object are metadata and stand in their order.
+-- The sectors that are written to make an object, or to rename an entry, are metadata and stand in their order.
 use Rattle.std.proofs.Common.{◌≡◌, ℕ, zero, suc, ◌+◌, ◌<◌, Bool, true, false, List, [], ◌∷◌, refl, sym, subst, arith}
 use Rattle.std.specs.Prelude.{slice_index}
 use Rattle.std.specs.List.Sorted.{IsStrictlyIncreasing}
@@ -11,9 +11,8 @@ use Rattle.ds_base.specs.declared.sectors.Sector.{Sector}
 use Rattle.ds_layout.specs.Places.{place_sector}
 use Rattle.ds_layout.specs.declared.places.Place.TheVariants as places
 use Rattle.ds_image.specs.Asking.{AreTargets, targets_of}
+use Rattle.ds_changes.specs.Redos.{renamed_pairs, filled_pairs, grown_pairs, AreInOrder}
 use Rattle.ds_image.specs.Metadata.{IsMetadata}
-use Rattle.ds_changes.proofs.StandsFilled.{filled-pairs}
-use Rattle.ds_changes.proofs.StandsGrown.{grown-pairs}
 
 -- Numbers that rise
 
@@ -54,8 +53,18 @@ module _ (g : Geom) where
   body-before_sub : (o n : ℕ) → o < items_of g Fd → place_sector g (places.Body o) < place_sector g (places.SubBlock n)
   body-before_sub o n within = omega (arith, within)
 
+  pub renamed-targets : (n : ℕ) → n < items_of g Sb → (block_sector : Sector) → AreTargets g (targets_of (renamed_pairs g n block_sector))
+  renamed-targets n within block_sector =
+      let s : ℕ = place_sector g (places.SubBlock n) in
+      record {
+        some = omega arith;
+        most = omega arith;
+        rising = rising-one s;
+        metadata = All-cons (IsMetadata g) s [] (sub-metadata n within) (All-nil (IsMetadata g));
+      }
+
   module _ (c o n : ℕ) (cluster : c < clusters_of g Fd) (object : o < items_of g Fd) (sub : n < items_of g Sb) where
-    pub filled-targets : (map_sector new_sector block_sector : Sector) → AreTargets g (targets_of (filled-pairs g c o n map_sector new_sector block_sector))
+    pub filled-targets : (map_sector new_sector block_sector : Sector) → AreTargets g (targets_of (filled_pairs g c o n map_sector new_sector block_sector))
     filled-targets map_sector new_sector block_sector =
         let a : ℕ = place_sector g (places.Bitmap Fd c) in
         let b : ℕ = place_sector g (places.Body o) in
@@ -67,11 +76,6 @@ module _ (g : Geom) where
           metadata = All-cons (IsMetadata g) a (b ∷ s ∷ []) (map-metadata Fd c cluster) (All-cons (IsMetadata g) b (s ∷ []) (body-metadata o object)
               (All-cons (IsMetadata g) s [] (sub-metadata n sub) (All-nil (IsMetadata g))));
         }
-
-    -- whether the new body stands before the directory's
-    abbrev pub AreInOrder : Bool → ℕ → Type 0
-    AreInOrder false d = d < o
-    AreInOrder true d = o < d
 
     module _ (c' d : ℕ) (sub_cluster : c' < clusters_of g Sb) (directory : d < items_of g Fd) (map_sector sub_map_sector dir_sector new_sector block_sector : Sector) where
       five : (x y : ℕ) → x < items_of g Fd → y < items_of g Fd → x < y
@@ -96,7 +100,7 @@ module _ (g : Geom) where
                 (All-cons Is s [] (sub-metadata n sub) (All-nil Is)))));
           }
 
-      pub grown-targets : (swapped : Bool) → AreInOrder swapped d
-          → AreTargets g (targets_of (grown-pairs g swapped c c' d o n map_sector sub_map_sector dir_sector new_sector block_sector))
+      pub grown-targets : (swapped : Bool) → AreInOrder swapped d o
+          → AreTargets g (targets_of (grown_pairs g swapped c c' d o n map_sector sub_map_sector dir_sector new_sector block_sector))
       grown-targets false ordered = five d o directory object ordered
       grown-targets true ordered = five o d object directory ordered
