@@ -24,7 +24,12 @@ use std::cmp::Ordering;
 type FirstNames = ArrayVec<(Name, Key), 32>;
 
 /// What List answers.
-pub(crate) fn list(geom: &Geom, seen: &Seen, dir: &Key, after: &Option<Name>) -> Result<TreeReply, Ask>
+pub(crate) fn list(
+    geom: &Geom,
+    seen: &Seen,
+    dir: &Key,
+    after: &Option<Name>,
+) -> Result<TreeReply, Ask>
     requires { IsGeom geom.now }
     ensures { (p : Parts) → Reads geom.now (look_of seen.now) p
         → result ≡ list_known geom.now seen.now p dir.now after.now }
