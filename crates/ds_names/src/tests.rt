@@ -189,7 +189,7 @@ fn asked_of(
     let plan = Names::new(&SHAPE, 0, call);
     let mut seen = Seen::new(alloc)?;
     let mut asked = Vec::new(alloc);
-    for _step in 0..60 {
+    for step in 0..60 {
         match plan.ask(&seen) {
             Ask::Lock(object) => {
                 assert!(rt; !seen.has_lock(object));
@@ -201,7 +201,10 @@ fn asked_of(
                 seen.put(at, image.sector(at).ok_or("no sector of metadata")?);
                 asked.push(Asked::Read(at))?;
             }
-            end => return Ok((asked, end)),
+            end => {
+                assert!(rt; asked.len() <= step);
+                return Ok((asked, end));
+            }
         }
     }
     Err("it doesn't end".into())

@@ -1,5 +1,5 @@
 -- Finding a name in a directory: what is asked for before it is known, and what the tree says of it.
-use Rattle.std.proofs.Common.{◌≡◌, ℕ, zero, suc, ◌+◌, ◌/◌, ◌<◌, ◌==◌, ◌||◌, Bool, true, false, nat_eq, nat_lt, if◌then◌else◌, List, [], ◌∷◌, ◌++◌, length, map, Option, None, Some, inl, inr, refl, sym, ap, subst, ◌∙◌, arith, slice_get, is_some}
+use Rattle.std.proofs.Common.{◌≡◌, ℕ, zero, suc, ◌+◌, ◌/◌, ◌<◌, ◌==◌, ◌||◌, Bool, true, false, nat_eq, nat_lt, if◌then◌else◌, List, [], ◌∷◌, ◌++◌, map, Option, None, Some, inl, inr, refl, sym, ap, subst, ◌∙◌, arith, slice_get, is_some}
 use Rattle.std.specs.Prelude.{IsSome, Result, Ok, Err, bytes_eq, option_map, slice_index_or}
 use Rattle.std.specs.List.{list_any, filter_map}
 use Rattle.std.specs.Cmp.Lexicographic.{slice_cmp}
@@ -13,9 +13,8 @@ use Rattle.std.proofs.lemmas.Map.Text.{is_eq-slice_cmp}
 use Rattle.std.proofs.lemmas.Slice.Eq.{bytes_eq-Decides}
 use Rattle.ds_base.specs.Geometry.{items_of, per_cluster}
 use Rattle.ds_base.specs.declared.geometry.Geom.{Geom}
-use Rattle.ds_base.specs.declared.geometry.Kind.TheVariants.{Fd, Sb}
+use Rattle.ds_base.specs.declared.geometry.Kind.TheVariants.{Sb}
 use Rattle.ds_base.specs.declared.names.Key.{Key}
-use Rattle.ds_base.specs.declared.names.NodeKind.{NodeKind}
 use Rattle.ds_base.specs.declared.names.NodeKind.TheVariants as kinds
 use Rattle.ds_base.specs.declared.sectors.Sector.{Sector}
 use Rattle.ds_dir.specs.declared.sub_block.Entry.{Entry}
@@ -38,9 +37,9 @@ use Rattle.ds_image.proofs.SoundParts.{list-is}
 use Rattle.ds_layout.specs.Places.{place_sector, cluster_lock}
 use Rattle.ds_layout.specs.declared.places.Place.TheVariants as places
 use Rattle.ds_plans.specs.Bodies.{part_seen, sub_seen}
-use Rattle.ds_plans.specs.DirAsks.{dir_sectors, DirAsks}
+use Rattle.ds_plans.specs.DirAsks.{DirAsks}
 use Rattle.ds_plans.specs.DirSeen.{HasDir, HasSub, said_found, said_entry, IsFoundIn, AreAllIn}
-use Rattle.ds_plans.specs.Entries.{entry_named, room_found, found_among, found_from, found_in, subs_known}
+use Rattle.ds_plans.specs.Entries.{entry_named, found_among, found_from, found_in, subs_known}
 use Rattle.ds_plans.specs.Goes.{Goes}
 use Rattle.ds_plans.specs.declared.entries.Found.{Found}
 use Rattle.ds_plans.proofs.Alike.{sub_alike}

@@ -1,5 +1,5 @@
 -- Entries of a directory by name.
-use Rattle.std.specs.Prelude.{◌≡◌, ℕ, suc, bytes_eq, if◌then◌else◌, Bool, List, [], ◌∷◌, Option, Some, None, Result, Ok, Err}
+use Rattle.std.specs.Prelude.{ℕ, suc, bytes_eq, if◌then◌else◌, List, [], ◌∷◌, Option, Some, None, Result, Ok}
 use Rattle.ds_base.specs.declared.geometry.Geom.{Geom}
 use Rattle.ds_dir.specs.declared.sub_block.Entry.{Entry}
 use Rattle.ds_fd.specs.declared.body.Body.{Body}
