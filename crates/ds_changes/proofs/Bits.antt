@@ -61,7 +61,7 @@ map-length g look kind maps i None reads within is some = absurd (cc)
 map-length g look kind maps i (Some b) reads within is some = ((reads.each i (omega (arith, within, reads.len)) b).0 is).0.count
 
 -- each bitmap has the bits of one cluster
-maps-wide : (g : Geom) (look : Look) (kind : Kind) (maps : List (Option Bitmap)) → IsReading (clusters_of g kind) (SpellsBits g look kind) maps → AllSpelled maps
+pub maps-wide : (g : Geom) (look : Look) (kind : Kind) (maps : List (Option Bitmap)) → IsReading (clusters_of g kind) (SpellsBits g look kind) maps → AllSpelled maps
     → (i : ℕ) (r : Option Bitmap) → slice_get maps i ≡ Some r → length (used_bits r) ≡ per_cluster g kind
 maps-wide g look kind maps reads all i r at =
     let within = slice_get_within maps i r at in

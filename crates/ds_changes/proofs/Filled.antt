@@ -26,15 +26,8 @@ use Rattle.ds_changes.proofs.Bits.{bits-set, all-put, bit-within}
 use Rattle.ds_changes.proofs.Entered.{EntersBodies, EntersParts, lists-alike, new-subs, old-subs, dir-subs}
 use Rattle.ds_changes.proofs.Listed.{listed-by, listed-in, part-put}
 use Rattle.ds_changes.proofs.Puts.{in_use, put-room}
+use Rattle.ds_changes.specs.ChangedParts.{filled}
 use Rattle.ds_changes.proofs.Rooms.{used_in, used-same, used-put}
-
--- the parts with a bitmap of descriptors, a body and a sub-block in the place of others
-abbrev pub filled : Parts → ℕ → ℕ → ℕ → Bitmap → Body → SubBlock → Parts
-filled p c o n map new block = record p {
-  bodies = slice_set p.bodies o (Some new);
-  fd_maps = slice_set p.fd_maps c (Some map);
-  subs = slice_set p.subs n (Some block);
-}
 
 module _ (g : Geom) (look : Look) (p : Parts) (reads : Reads g look p) (sound : IsSound p)
     (d o n c it : ℕ) (dir new : Body) (e : Entry) (map : Bitmap) (block : SubBlock)

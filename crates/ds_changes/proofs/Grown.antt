@@ -31,16 +31,8 @@ use Rattle.ds_changes.proofs.Bits.{bits-set, bits-get, all-put, bit-within}
 use Rattle.ds_changes.proofs.Entered.{EntersBodies, EntersParts, is_new, is_dir, is_other, where-is, apart, d-within, new-subs, old-subs, dir-subs, dir-subs_after}
 use Rattle.ds_changes.proofs.Listed.{listed-by, listed-in, listed-nowhere, part-put}
 use Rattle.ds_changes.proofs.Puts.{in_use}
+use Rattle.ds_changes.specs.ChangedParts.{grown_with}
 use Rattle.ds_changes.proofs.Rooms.{used_in, used-same, used-added}
-
--- the parts with bitmaps of descriptors and of sub-blocks, two bodies and a sub-block in the place of others
-abbrev pub grown_with : Parts → ℕ → ℕ → ℕ → ℕ → ℕ → Bitmap → Bitmap → Body → Body → SubBlock → Parts
-grown_with p c c' d o n map map' grown new block = record p {
-  bodies = slice_set (slice_set p.bodies d (Some grown)) o (Some new);
-  fd_maps = slice_set p.fd_maps c (Some map);
-  sb_maps = slice_set p.sb_maps c' (Some map');
-  subs = slice_set p.subs n (Some block);
-}
 
 module _ (g : Geom) (look : Look) (p : Parts) (reads : Reads g look p) (sound : IsSound p)
     (d o n c it c' it' : ℕ) (dir grown new : Body) (e : Entry) (map map' : Bitmap) (block : SubBlock)

@@ -27,11 +27,12 @@ use Rattle.ds_changes.specs.Entering.{FillsRoom}
 use Rattle.ds_changes.specs.Guarded.{GuardedBy}
 use Rattle.ds_changes.specs.Making.{ReadyToMake}
 use Rattle.ds_changes.proofs.Entered.{at-dir, entered-sound}
-use Rattle.ds_changes.proofs.Filled.{filled}
 use Rattle.ds_changes.proofs.Guards.{guard-body, guard-map, guard-sub_listed}
 use Rattle.ds_changes.proofs.Listed.{listed-in}
 use Rattle.ds_changes.proofs.Spelling.{body-at, map-at, sub-at}
-use Rattle.ds_changes.proofs.StandsFilled.{filled-pairs, filled-reads}
+use Rattle.ds_changes.proofs.StandsFilled.{filled-reads}
+use Rattle.ds_changes.specs.ChangedParts.{filled}
+use Rattle.ds_changes.specs.Redos.{filled_pairs}
 use Rattle.ds_changes.proofs.StandsFilled as fillings
 
 module _ (g : Geom) (is : IsGeom g) (image : List Sector) (t : FileTree) (stands : StandsFor g image t)
@@ -47,7 +48,7 @@ module _ (g : Geom) (is : IsGeom g) (image : List Sector) (t : FileTree) (stands
   filled-after = fillings.after g is image t stands key dir o e new c map n block make fills map_sector new_sector block_sector spells_map spells_new spells_block
 
   filled-guarded : (look : Look) (q : Parts) → Reads g look q → IsSound q → IsAt (sub_lists q) key.object fills.place n
-      → All (GuardedBy g look Held) (targets_of (filled-pairs g c o n map_sector new_sector block_sector))
+      → All (GuardedBy g look Held) (targets_of (filled_pairs g c o n map_sector new_sector block_sector))
   filled-guarded look q reads sound at =
       let Is = GuardedBy g look Held in
       let a : ℕ = place_sector g (places.Bitmap Fd c) in
@@ -60,10 +61,10 @@ module _ (g : Geom) (is : IsGeom g) (image : List Sector) (t : FileTree) (stands
       (All-cons Is b (s ∷ []) (record { object = o; guards = guard-body g look q reads o object; held = held_object })
       (All-cons Is s [] (record { object = key.object; guards = guard-sub_listed g look q reads key.object fills.place n sub sound.sub_owners at; held = held_dir }) (All-nil Is)))
 
-  pub filled-guarded_before : All (GuardedBy g (slice_get image) Held) (targets_of (filled-pairs g c o n map_sector new_sector block_sector))
+  pub filled-guarded_before : All (GuardedBy g (slice_get image) Held) (targets_of (filled_pairs g c o n map_sector new_sector block_sector))
   filled-guarded_before = filled-guarded (slice_get image) p stands.reads stands.sound (listed-in p key.object fills.place n dir make.lacks.there make.lacks.is_dir fills.listed)
 
-  pub filled-guarded_after : All (GuardedBy g (slice_get filled-after) Held) (targets_of (filled-pairs g c o n map_sector new_sector block_sector))
+  pub filled-guarded_after : All (GuardedBy g (slice_get filled-after) Held) (targets_of (filled_pairs g c o n map_sector new_sector block_sector))
   filled-guarded_after =
       let q : Parts = filled p c o n map new block in
       let enters = fillings.enters g is image t stands key dir o e new c map n block make fills map_sector new_sector block_sector spells_map spells_new spells_block in

@@ -33,7 +33,8 @@ use Rattle.ds_changes.proofs.Grown.{subs-grown, listed-by_none}
 use Rattle.ds_changes.proofs.Guards.{guard-body, guard-map, guard-sub_listed, guard-sub_unlisted}
 use Rattle.ds_changes.proofs.Listed.{listed-in}
 use Rattle.ds_changes.proofs.Spelling.{body-at, map-at}
-use Rattle.ds_changes.proofs.StandsGrown.{two-pairs, grown-pairs, grown-reads, n-within}
+use Rattle.ds_changes.proofs.StandsGrown.{grown-reads, n-within}
+use Rattle.ds_changes.specs.Redos.{two_pairs, grown_pairs}
 use Rattle.ds_changes.proofs.StandsGrown as growings
 
 module _ (g : Geom) (is : IsGeom g) (image : List Sector) (t : FileTree) (stands : StandsFor g image t)
@@ -51,7 +52,7 @@ module _ (g : Geom) (is : IsGeom g) (image : List Sector) (t : FileTree) (stands
   grown-after = growings.after g is image t stands key dir o e new c map n grown c' sub_map block make grow in_image map_sector sub_map_sector dir_sector new_sector block_sector spells_map spells_sub_map spells_dir spells_new spells_block
 
   abbrev pairs : Bool → List Pair
-  pairs swapped = grown-pairs g swapped c c' key.object o n map_sector sub_map_sector dir_sector new_sector block_sector
+  pairs swapped = grown_pairs g swapped c c' key.object o n map_sector sub_map_sector dir_sector new_sector block_sector
 
   sub-within : n < items_of g Sb
   sub-within = n-within g is image t stands key dir o e new c map n grown c' sub_map block make grow in_image map_sector sub_map_sector dir_sector new_sector block_sector spells_map spells_sub_map spells_dir spells_new spells_block
@@ -73,11 +74,11 @@ module _ (g : Geom) (is : IsGeom g) (image : List Sector) (t : FileTree) (stands
       let by_d : Is d = record { object = key.object; guards = guard-body g look q reads key.object directory; held = held_dir } in
       let by_o : Is f = record { object = o; guards = guard-body g look q reads o object; held = held_object } in
       let last = All-cons Is s [] sub_guarded (All-nil Is) in
-      let rest = elim swapped as (λ w. All Is (targets_of (two-pairs w (d, dir_sector) (f, new_sector) ((s, block_sector) ∷ [])))) [
+      let rest = elim swapped as (λ w. All Is (targets_of (two_pairs w (d, dir_sector) (f, new_sector) ((s, block_sector) ∷ [])))) [
         | false ↦ All-cons Is d (f ∷ s ∷ []) by_d (All-cons Is f (s ∷ []) by_o last)
         | true ↦ All-cons Is f (d ∷ s ∷ []) by_o (All-cons Is d (s ∷ []) by_d last)
       ] in
-      let tail = targets_of (two-pairs swapped (d, dir_sector) (f, new_sector) ((s, block_sector) ∷ [])) in
+      let tail = targets_of (two_pairs swapped (d, dir_sector) (f, new_sector) ((s, block_sector) ∷ [])) in
       All-cons Is a (b ∷ tail) (record { object = cluster_lock Fd c; guards = guard-map g look q reads Fd c cluster; held = held_cluster })
       (All-cons Is b tail (record { object = cluster_lock Sb c'; guards = guard-map g look q reads Sb c' sub_cluster; held = held_sub_cluster }) rest)
 

@@ -23,6 +23,7 @@ use Rattle.ds_image.specs.Parts.{Parts, part_at, maps_of}
 use Rattle.ds_image.specs.Readings.{Reads}
 use Rattle.ds_image.proofs.Sizes.{part_within}
 use Rattle.ds_changes.specs.Beginning.{SetsBit, Begins}
+use Rattle.ds_changes.specs.Ending.{EmptiesRoom}
 use Rattle.ds_changes.specs.Entering.{FillsRoom}
 
 bytes-within : (image : List Sector) (at : ℕ) (bytes : List ℕ) → HasBytes (slice_get image) at bytes → at < length image
@@ -55,22 +56,29 @@ module _ (g : Geom) (image : List Sector) (p : Parts) (reads : Reads g (slice_ge
         count = ap length sets.changed ∙ length-set sets.before.used it v ∙ before.count;
       }
 
-  -- a sub-block of which a room was filled is one
-  pub filled-is_sub : (dir : Body) (n : ℕ) (e : Entry) (after : SubBlock) → IsEntry e → FillsRoom p dir n e after → IsSubBlock after
-  filled-is_sub dir n e after entry fills =
-      let before : IsSubBlock fills.before = ((reads.subs.each n (sub-at n fills.before fills.there).0 fills.before).0 fills.there).0 in
+  rooms-set : (rooms : List (Option Entry)) (room : Option Entry) → IsRoom room → All IsRoom rooms → (j : ℕ) → All IsRoom (slice_set rooms j room)
+  rooms-set rooms room fits all j i d l =
+      let within : i < length rooms = omega (arith, l, length-set rooms j room) in
+      elim (cases_eq i j) [
+        | inl here ↦ subst IsRoom (sym (ap (λ k. get_or (slice_set rooms j room) k d) here ∙ get_or-set_same rooms j room d (omega (arith, here)))) fits
+        | inr other ↦ subst IsRoom (sym (get_or-set_other rooms j i room d other)) (all i d within)
+      ]
+
+  pub set-is_sub : (n j : ℕ) (room : Option Entry) (before after : SubBlock) → IsRoom room → part_at p.subs n ≡ Some before
+      → after.rooms ≡ slice_set before.rooms j room → IsSubBlock after
+  set-is_sub n j room before after fits there changed =
+      let was : IsSubBlock before = ((reads.subs.each n (sub-at n before there).0 before).0 there).0 in
       record {
-        four = ap length fills.filled ∙ length-set fills.before.rooms fills.room (Some e) ∙ before.four;
-        are_rooms = subst (All IsRoom) (sym fills.filled) (rooms-set fills.before.rooms before.are_rooms fills.room);
+        four = ap length changed ∙ length-set before.rooms j room ∙ was.four;
+        are_rooms = subst (All IsRoom) (sym changed) (rooms-set before.rooms room fits was.are_rooms j);
       }
-    where
-      rooms-set : (rooms : List (Option Entry)) → All IsRoom rooms → (j : ℕ) → All IsRoom (slice_set rooms j (Some e))
-      rooms-set rooms all j i d l =
-          let within : i < length rooms = omega (arith, l, length-set rooms j (Some e)) in
-          elim (cases_eq i j) [
-            | inl here ↦ subst IsRoom (sym (ap (λ k. get_or (slice_set rooms j (Some e)) k d) here ∙ get_or-set_same rooms j (Some e) d (omega (arith, here)))) entry
-            | inr other ↦ subst IsRoom (sym (get_or-set_other rooms j i (Some e) d other)) (all i d within)
-          ]
+
+  -- a sub-block of which a room was filled or emptied is one
+  pub filled-is_sub : (dir : Body) (n : ℕ) (e : Entry) (after : SubBlock) → IsEntry e → FillsRoom p dir n e after → IsSubBlock after
+  filled-is_sub dir n e after entry fills = set-is_sub n fills.room (Some e) fills.before after entry fills.there fills.filled
+
+  pub emptied-is_sub : (dir : Body) (n : ℕ) (e : Entry) (after : SubBlock) → EmptiesRoom p dir n e after → IsSubBlock after
+  emptied-is_sub dir n e after empties = set-is_sub n empties.room None empties.before after tt empties.there empties.emptied
 
 -- so is one with an entry alone
 pub alone-is_sub : (e : Entry) (after : SubBlock) → IsEntry e → after.rooms ≡ Some e ∷ None ∷ None ∷ None ∷ [] → IsSubBlock after

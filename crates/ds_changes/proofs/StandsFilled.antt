@@ -1,5 +1,5 @@
 -- An image with an object made for a free room of a directory stands for the tree that the call makes.
-use Rattle.std.proofs.Common.{◌≡◌, ℕ, ◌+◌, ◌*◌, true, false, cond, List, [], ◌∷◌, length, slice_get, slice_set, Some, sym, ap, subst, ◌∙◌, length-set, arith}
+use Rattle.std.proofs.Common.{◌≡◌, ℕ, ◌+◌, ◌*◌, true, false, cond, List, length, slice_get, slice_set, Some, sym, ap, subst, ◌∙◌, length-set, arith}
 use Rattle.std.proofs.lemmas.Bool.Decides.{nat_tests}
 use Rattle.std.proofs.lemmas.Bool.{false≢true}
 use Rattle.ds_base.specs.Geometry.{IsGeom}
@@ -22,22 +22,18 @@ use Rattle.ds_tree.specs.declared.calls.TreeReply.TheVariants.{Made}
 use Rattle.ds_image.specs.Logical.{laid_over}
 use Rattle.ds_image.specs.Objects.{entries_of}
 use Rattle.ds_image.specs.Parts.{Parts}
-use Rattle.ds_image.specs.Pending.{Pair}
 use Rattle.ds_image.specs.Readings.{Reads}
 use Rattle.ds_image.specs.Sound.{StandsFor}
 use Rattle.ds_image.proofs.Sizes.{body_is}
 use Rattle.ds_changes.specs.Entering.{subs_in, FillsRoom, make_call}
 use Rattle.ds_changes.specs.Making.{ReadyToMake, Leaves}
 use Rattle.ds_changes.proofs.Entered.{EntersParts}
-use Rattle.ds_changes.proofs.Filled.{filled, enters-filled}
+use Rattle.ds_changes.proofs.Filled.{enters-filled}
 use Rattle.ds_changes.proofs.Frames.{reads-body, reads-map, reads-sub}
 use Rattle.ds_changes.proofs.Makes.{have-room, leaves-made}
+use Rattle.ds_changes.specs.ChangedParts.{filled}
+use Rattle.ds_changes.specs.Redos.{filled_pairs}
 use Rattle.ds_changes.proofs.Spelling.{body-at, map-at, sub-at, set-bits, filled-is_sub, begun-is_entry}
-
--- the sectors of the redo, in their order
-abbrev pub filled-pairs : Geom → ℕ → ℕ → ℕ → Sector → Sector → Sector → List Pair
-filled-pairs g c o n map_sector new_sector block_sector =
-    (place_sector g (places.Bitmap Fd c), map_sector) ∷ (place_sector g (places.Body o), new_sector) ∷ (place_sector g (places.SubBlock n), block_sector) ∷ []
 
 module _ (g : Geom) (is : IsGeom g) (image : List Sector) (t : FileTree) (stands : StandsFor g image t)
     (key : Key) (dir : Body) (o : ℕ) (e : Entry) (new : Body) (c : ℕ) (map : Bitmap) (n : ℕ) (block : SubBlock)
@@ -48,7 +44,7 @@ module _ (g : Geom) (is : IsGeom g) (image : List Sector) (t : FileTree) (stands
   p = stands.parts
 
   abbrev pub after : List Sector
-  after = laid_over image (filled-pairs g c o n map_sector new_sector block_sector)
+  after = laid_over image (filled_pairs g c o n map_sector new_sector block_sector)
 
   abbrev first : List Sector
   first = slice_set image (place_sector g (places.Bitmap Fd c)) map_sector

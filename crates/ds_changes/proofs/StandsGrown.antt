@@ -36,27 +36,17 @@ use Rattle.ds_changes.proofs.Bits.{bits-at}
 use Rattle.ds_changes.proofs.Entered.{EntersParts, apart}
 use Rattle.ds_changes.proofs.FreeItems.{free-some}
 use Rattle.ds_changes.proofs.Frames.{reads-body, reads-map, reads-sub}
-use Rattle.ds_changes.proofs.Grown.{grown_with, enters-grown, n-item}
+use Rattle.ds_changes.proofs.Grown.{enters-grown, n-item}
 use Rattle.ds_changes.proofs.Makes.{leaves-made}
 use Rattle.ds_changes.proofs.Names.{by_name-length}
+use Rattle.ds_changes.specs.ChangedParts.{grown_with}
+use Rattle.ds_changes.specs.Redos.{two_pairs, grown_pairs}
 use Rattle.ds_changes.proofs.Spelling.{body-at, map-at, set-bits, alone-is_sub, begun-is_entry}
 
--- two pairs in this order or in the other
-abbrev pub two-pairs : Bool → Pair → Pair → List Pair → List Pair
-two-pairs false a b pairs = a ∷ b ∷ pairs
-two-pairs true a b pairs = b ∷ a ∷ pairs
-
 pub two-laid : (swapped : Bool) (image : List Sector) (a b : Pair) (pairs : List Pair) → a.0 ≢ b.0
-    → laid_over image (two-pairs swapped a b pairs) ≡ laid_over image (two-pairs false a b pairs)
+    → laid_over image (two_pairs swapped a b pairs) ≡ laid_over image (two_pairs false a b pairs)
 two-laid false image a b pairs differ = refl
 two-laid true image a b pairs differ = ap (λ xs. laid_over xs pairs) (set_comm image b.0 a.0 b.1 a.1 (λ same. differ (sym same)))
-
--- the sectors of the redo: the directory's body stands before the new one, or behind it
-abbrev pub grown-pairs : Geom → Bool → ℕ → ℕ → ℕ → ℕ → ℕ → Sector → Sector → Sector → Sector → Sector → List Pair
-grown-pairs g swapped c c' d o n map_sector sub_map_sector dir_sector new_sector block_sector =
-    (place_sector g (places.Bitmap Fd c), map_sector) ∷ (place_sector g (places.Bitmap Sb c'), sub_map_sector)
-    ∷ two-pairs swapped (place_sector g (places.Body d), dir_sector) (place_sector g (places.Body o), new_sector)
-    ((place_sector g (places.SubBlock n), block_sector) ∷ [])
 
 module _ (g : Geom) (is : IsGeom g) (image : List Sector) (t : FileTree) (stands : StandsFor g image t)
     (key : Key) (dir : Body) (o : ℕ) (e : Entry) (new : Body) (c : ℕ) (map : Bitmap) (n : ℕ) (grown : Body) (c' : ℕ) (sub_map : Bitmap) (block : SubBlock)
@@ -72,7 +62,7 @@ module _ (g : Geom) (is : IsGeom g) (image : List Sector) (t : FileTree) (stands
   parts-after = grown_with p c c' key.object o n map sub_map grown new block
 
   abbrev pub after : Bool → List Sector
-  after swapped = laid_over image (grown-pairs g swapped c c' key.object o n map_sector sub_map_sector dir_sector new_sector block_sector)
+  after swapped = laid_over image (grown_pairs g swapped c c' key.object o n map_sector sub_map_sector dir_sector new_sector block_sector)
 
   abbrev first : List Sector
   first = slice_set image (place_sector g (places.Bitmap Fd c)) map_sector

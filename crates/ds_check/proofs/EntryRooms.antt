@@ -1,5 +1,5 @@
 -- Entries of a directory by name, and the objects that its rooms name.
-use Rattle.std.proofs.Common.{◌≡◌, ℕ, zero, suc, ◌+◌, ◌≤◌, Bool, true, false, cond, eqb, not, ◌||◌, List, [], ◌∷◌, length, take, map, Option, None, Some, slice_get, refl, sym, ap, ◌∙◌, subst, inl, inr, arith}
+use Rattle.std.proofs.Common.{◌≡◌, ℕ, zero, suc, ◌+◌, ◌≤◌, Bool, true, false, cond, eqb, ◌||◌, List, [], ◌∷◌, take, map, Option, None, Some, slice_get, refl, sym, ap, ◌∙◌, inl, inr, arith}
 use Rattle.std.specs.Prelude.{bytes_eq}
 use Rattle.std.specs.Cmp.Lexicographic.{slice_cmp, nat_list_eq_equiv}
 use Rattle.std.specs.FinMap as maps
@@ -61,7 +61,7 @@ module _ {A : Type 0} (f : A → Option ℕ) where
   kept-none : (a : A) (rooms : List A) → f a ≡ None → filter_map f (a ∷ rooms) ≡ filter_map f rooms
   kept-none a rooms is = rw is refl
 
-  kept-some : (a : A) (rooms : List A) (y : ℕ) → f a ≡ Some y → filter_map f (a ∷ rooms) ≡ y ∷ filter_map f rooms
+  pub kept-some : (a : A) (rooms : List A) (y : ℕ) → f a ≡ Some y → filter_map f (a ∷ rooms) ≡ y ∷ filter_map f rooms
   kept-some a rooms y is = rw is refl
 
   first-more : (a : A) (rooms : List A) (r : Option ℕ) → f a ≡ r → (x : ℕ) → times x (filter_map f rooms) ≤ times x (filter_map f (a ∷ rooms))

@@ -1,18 +1,17 @@
 -- Past a body's last block and last address nothing is wrong with an address.
-use Rattle.std.proofs.Common.{◌≡◌, ℕ, zero, suc, ◌+◌, ◌*◌, ◌-◌, ◌<◌, ◌≤◌, ltb, leb, Bool, true, false, not, ◌&&◌, ◌||◌, cond, eqb, nat_lt, List, [], ◌++◌, length, take, min, Option, Some, None, refl, sym, ap, ◌∙◌, arith}
+use Rattle.std.proofs.Common.{◌≡◌, ℕ, zero, suc, ◌+◌, ◌-◌, ◌<◌, ◌≤◌, leb, Bool, true, false, ◌&&◌, ◌||◌, cond, eqb, nat_lt, List, [], ◌++◌, length, take, min, Option, Some, None, refl, sym, ap, ◌∙◌, arith}
 use Rattle.std.proofs.lemmas.List.{append-nil, length-take}
 use Rattle.std.proofs.lemmas.Bool.Decides.{nat_tests}
 use Rattle.ds_base.specs.declared.geometry.Geom.{Geom}
 use Rattle.ds_base.specs.declared.names.NodeKind.{NodeKind}
 use Rattle.ds_base.specs.declared.names.NodeKind.TheVariants as kinds
 use Rattle.ds_fd.specs.declared.body.Body.{Body}
-use Rattle.ds_image.specs.Objects.{ptrs_by}
 use Rattle.ds_image.specs.Parts.{Parts}
 use Rattle.ds_tree.specs.Counts.{pointer_blocks}
 use Rattle.ds_check.specs.declared.findings.Find.{Find}
 use Rattle.ds_check.specs.declared.findings.Find.TheVariants.{Address}
 use Rattle.ds_check.specs.Addresses.{address_at}
-use Rattle.ds_check.specs.Objects.{is_outside, is_bad_block, pointed_at, is_bad_address, past_last, first_past, is_first_past, most_addresses}
+use Rattle.ds_check.specs.Objects.{is_outside, is_bad_address, past_last, first_past, most_addresses}
 use Rattle.ds_check.specs.Rows.{find_if, row}
 use Rattle.ds_check.proofs.Rows.{row_step}
 

@@ -1,3 +1,8 @@
+pub mod CleanAddresses
+pub mod CleanItems
+pub mod CleanMetadata
+pub mod CleanNames
+pub mod CleanTrees
 pub mod EntryRooms
 pub mod FirstFound
 pub mod ItemMarks
@@ -10,8 +15,11 @@ pub mod NamedRooms
 pub mod NamingParents
 pub mod NoBad
 pub mod NoFinds
+pub mod OneAnswer
 pub mod Pending
 pub mod Reading
+pub mod RisingLists
 pub mod Rows
+pub mod SpelledPointers
 pub mod TreeRooms
 pub mod VolumeInfo

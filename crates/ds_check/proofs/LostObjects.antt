@@ -1,5 +1,5 @@
 -- The used objects that aren't reached, as a row.
-use Rattle.std.proofs.Common.{◌≡◌, ℕ, zero, suc, ◌+◌, ◌<◌, ◌↔◌, Bool, true, false, not, ◌&&◌, List, [], ◌∷◌, ◌++◌, length, map, filter, Option, None, slice_index_or, refl, sym, ap, ◌∙◌, subst, inl, inr, arith}
+use Rattle.std.proofs.Common.{◌≡◌, ℕ, zero, suc, ◌+◌, ◌<◌, Bool, true, false, not, ◌&&◌, List, [], ◌∷◌, ◌++◌, length, map, filter, Option, slice_index_or, refl, sym, ap, ◌∙◌, subst, inl, inr, arith}
 use Rattle.std.specs.Prelude.{Contains}
 use Rattle.std.specs.List.{flat_map, range_with_len}
 use Rattle.std.specs.List.Sorted.{IsStrictlyIncreasing}
@@ -11,14 +11,13 @@ use Rattle.std.proofs.lemmas.List.Kept.{IsStrictlyIncreasing-filter}
 use Rattle.ds_base.specs.Geometry.{items_of}
 use Rattle.ds_base.specs.declared.geometry.Geom.{Geom}
 use Rattle.ds_base.specs.declared.geometry.Kind.TheVariants.{Fd}
-use Rattle.ds_tree.specs.WellFormed.{Reached}
 use Rattle.ds_image.specs.Objects.{is_used, tree_of}
-use Rattle.ds_image.specs.Parents.{LeadsToRoot, AreReached}
+use Rattle.ds_image.specs.Parents.{AreReached}
 use Rattle.ds_image.specs.Parts.{Parts, part_at}
 use Rattle.ds_image.proofs.ReachedParents.{leads-iff_reached}
 use Rattle.ds_check.specs.declared.findings.Find.{Find}
 use Rattle.ds_check.specs.declared.findings.Find.TheVariants.{Lost}
-use Rattle.ds_check.specs.Findings.{AreLost, IsLost}
+use Rattle.ds_check.specs.Findings.{AreLost}
 use Rattle.ds_check.specs.Lost.{is_unreached, unreached_at, AreNamers}
 use Rattle.ds_check.specs.Objects.{naming_stage}
 use Rattle.ds_check.specs.Rows.{find_if, row}
@@ -83,6 +82,12 @@ pub lost-unreached : (g : Geom) (p : Parts) → length p.bodies ≡ items_of g F
 lost-unreached g p count none parents reached len are known =
     let n = items_of g Fd in
     let leads = leads-iff_reached (tree_of p) parents (namers-parents g p count none parents len are) in
+    let told : (o : ℕ) → is_used (part_at p.bodies o) ≡ true → slice_index_or reached o false ≡ false → Contains (filter (is_unreached p reached) (range_with_len 0 n)) o =
+    λ o used isnt.
+    let below : o < n = omega (arith, count, used-within p o used) in
+    let at : slice_index_or (range_with_len 0 n) o o ≡ o = get_or-range_with_len 0 n o o below ∙ (let same : 0 + o ≡ o = omega arith in same) in
+    passing-kept (is_unreached p reached) Lost (range_with_len 0 n) o o (omega (arith, below, length-range_with_len 0 n)) at
+    (both-and (is_used (part_at p.bodies o)) (slice_index_or reached o false) used isnt) in
     record {
       objects = filter (is_unreached p reached) (range_with_len 0 n);
       told = found-passing (is_unreached p reached) Lost (range_with_len 0 n);
@@ -101,8 +106,12 @@ lost-unreached g p count none parents reached len are known =
               | inl there ↦ absurd (lost.1 ((leads o).0 ((known.exact o (omega (arith, len, below))).0 there)))
               | inr absent ↦ absent
             ] in
-            let at : slice_index_or (range_with_len 0 n) o o ≡ o = get_or-range_with_len 0 n o o below ∙ (let same : 0 + o ≡ o = omega arith in same) in
-            passing-kept (is_unreached p reached) Lost (range_with_len 0 n) o o (omega (arith, below, length-range_with_len 0 n)) at
-            (both-and (is_used (part_at p.bodies o)) (slice_index_or reached o false) lost.0 isnt),
+            told o lost.0 isnt,
       );
+      rest = λ o used.
+          let below : o < n = omega (arith, count, used-within p o used) in
+          elim (cases_Bool (slice_index_or reached o false)) [
+            | inl there ↦ inr ((leads o).0 ((known.exact o (omega (arith, len, below))).0 there))
+            | inr absent ↦ inl (told o used absent)
+          ];
     }

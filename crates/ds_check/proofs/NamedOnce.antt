@@ -1,5 +1,5 @@
 -- Where entries and names have no findings, the directory that names an object is its parent.
-use Rattle.std.proofs.Common.{◌≡◌, ◌≢◌, ℕ, zero, suc, ◌+◌, ◌<◌, ◌≤◌, cond, Bool, true, false, eqb, not, ◌&&◌, List, [], ◌∷◌, ◌++◌, length, take, Option, None, Some, slice_get, slice_index_or, refl, sym, ap, ◌∙◌, subst, inl, inr, arith}
+use Rattle.std.proofs.Common.{◌≡◌, ◌≢◌, ℕ, zero, suc, ◌+◌, ◌<◌, ◌≤◌, cond, Bool, true, false, eqb, not, ◌&&◌, List, [], ◌++◌, length, take, Option, None, Some, slice_get, slice_index_or, refl, sym, ap, ◌∙◌, inl, inr, arith}
 use Rattle.std.specs.Prelude.{if◌then◌else◌, ◌==◌}
 use Rattle.std.specs.List.{list_any}
 use Rattle.std.proofs.lemmas.Bool.{cases_Bool, cases_eq, cases_lt, false≢true, eqb-true, ne_eqb}
@@ -23,7 +23,7 @@ use Rattle.ds_check.specs.declared.findings.Find.TheVariants.{Dangling, Again}
 use Rattle.ds_check.specs.declared.findings.Find.TheVariants as finds
 use Rattle.ds_check.specs.Naming.{dangling_room, dangling_in, repeated_room, repeated_in, misnamed_at}
 use Rattle.ds_check.specs.Objects.{same_kind, is_body_of, is_dangling, has_name, is_named_in, named_in, names_of, wanted_names, rooms_at, dangling, repeated, misnamed, naming_stage}
-use Rattle.ds_check.proofs.EntryRooms.{found_in, find-first, room-found, room-counts, given-counted}
+use Rattle.ds_check.proofs.EntryRooms.{find-first, room-found, room-counts, given-counted}
 use Rattle.ds_check.proofs.NamedRooms.{named_below, named-more}
 use Rattle.ds_check.proofs.NoFinds.{both-none, not-found, row-none}
 use Rattle.ds_check.proofs.TreeRooms.{name-found}
@@ -69,7 +69,7 @@ not-false : (b : Bool) → not b ≡ false → b ≡ true
 not-false true is = refl
 not-false false is = absurd (cc)
 
-gives-object : (p : Parts) (e : Entry) → is_body_of e (part_at p.bodies e.key.object) ≡ true → named_in p (Some e) ≡ Some e.key.object
+pub gives-object : (p : Parts) (e : Entry) → is_body_of e (part_at p.bodies e.key.object) ≡ true → named_in p (Some e) ≡ Some e.key.object
 gives-object p e is = rw is refl
 
 entry-given : (p : Parts) (room : Option Entry) (o : ℕ) → named_in p room ≡ Some o → (e : Entry) × (room ≡ Some e) × (e.key.object ≡ o)
@@ -98,7 +98,7 @@ used-within p o used = elim (cases_lt o (length p.bodies)) [
 ]
 
 -- an object without a body has no rooms
-room-within : (p : Parts) (dir r : ℕ) (room : Option Entry) → slice_get (rooms_at p dir) r ≡ Some room → dir < length p.bodies
+pub room-within : (p : Parts) (dir r : ℕ) (room : Option Entry) → slice_get (rooms_at p dir) r ≡ Some room → dir < length p.bodies
 room-within p dir r room at = elim (cases_lt dir (length p.bodies)) [
   | inl below ↦ below
   | inr past ↦
@@ -108,17 +108,17 @@ room-within p dir r room at = elim (cases_lt dir (length p.bodies)) [
 ]
 
 module _ (g : Geom) (p : Parts) (count : length p.bodies ≡ items_of g Fd) (none : naming_stage g p ≡ []) where
-  stages : ((dangling g p ≡ []) × (repeated g p ≡ [])) × (misnamed g p ≡ [])
+  pub stages : ((dangling g p ≡ []) × (repeated g p ≡ [])) × (misnamed g p ≡ [])
   stages =
       let two = both-none (dangling g p ++ repeated g p) (misnamed g p) none in
       (both-none (dangling g p) (repeated g p) two.0, two.1)
 
-  not-dangling : (o r : ℕ) → o < items_of g Fd → r < length (rooms_at p o) → is_dangling p (slice_index_or (rooms_at p o) r None) ≡ false
+  pub not-dangling : (o r : ℕ) → o < items_of g Fd → r < length (rooms_at p o) → is_dangling p (slice_index_or (rooms_at p o) r None) ≡ false
   not-dangling o r there within =
       not-found (is_dangling p (slice_index_or (rooms_at p o) r None)) (Dangling o r)
       (row-none (length (rooms_at p o)) (dangling_room p o (rooms_at p o)) (row-none (items_of g Fd) (λ d. dangling_in p d (rooms_at p d)) stages.0.0 o there) r within)
 
-  not-repeated : (o r : ℕ) → o < items_of g Fd → r < length (rooms_at p o) → is_named_in (take r (rooms_at p o)) (slice_index_or (rooms_at p o) r None) ≡ false
+  pub not-repeated : (o r : ℕ) → o < items_of g Fd → r < length (rooms_at p o) → is_named_in (take r (rooms_at p o)) (slice_index_or (rooms_at p o) r None) ≡ false
   not-repeated o r there within =
       not-found (is_named_in (take r (rooms_at p o)) (slice_index_or (rooms_at p o) r None)) (Again o r)
       (row-none (length (rooms_at p o)) (repeated_room o (rooms_at p o)) (row-none (items_of g Fd) (λ d. repeated_in d (rooms_at p d)) stages.0.1 o there) r within)

@@ -1,24 +1,21 @@
 -- Where nothing is found in front of the logical image, no sector is bad.
-use Rattle.std.proofs.Common.{◌≡◌, ℕ, ◌<◌, Bool, true, false, not, ◌&&◌, is_none, List, [], ◌∷◌, ◌++◌, length, slice_get, Option, Some, None, inl, inr, refl, sym, ap, ◌∙◌, subst, arith}
-use Rattle.std.specs.List.{flat_map}
+use Rattle.std.proofs.Common.{◌≡◌, ℕ, ◌<◌, Bool, true, false, ◌&&◌, is_none, List, [], ◌∷◌, ◌++◌, length, slice_get, Option, Some, None, inl, inr, refl, sym, ap, ◌∙◌, subst, arith}
 use Rattle.ds_base.specs.Geometry.{clusters_of, items_of}
 use Rattle.ds_base.specs.declared.geometry.Geom.{Geom}
 use Rattle.ds_base.specs.declared.geometry.Kind.{Kind}
 use Rattle.ds_base.specs.declared.geometry.Kind.TheVariants.{Fd, Sb, Pb, Fb}
 use Rattle.ds_base.specs.declared.sectors.Sector.{Sector}
 use Rattle.ds_jrnl.specs.declared.index.Index.{Index}
-use Rattle.ds_layout.specs.Places.{cluster_lock, IsLock, IsPlace}
+use Rattle.ds_layout.specs.Places.{IsLock, IsPlace}
 use Rattle.ds_layout.specs.declared.places.Place.{Place}
 use Rattle.ds_layout.specs.declared.places.Place.TheVariants as places
-use Rattle.ds_marks.specs.declared.header.Header.{Header}
 use Rattle.ds_marks.specs.declared.header.Owner.{Owner}
 use Rattle.ds_marks.specs.declared.slot.Slot.{Slot}
-use Rattle.ds_marks.specs.declared.slot.Journal.{Journal}
 use Rattle.ds_marks.specs.declared.slot.Journal.TheVariants.{Committed}
-use Rattle.ds_image.specs.BadSectors.{HasBadIndex, IsBad, IsBadPlace, HasNoBad}
+use Rattle.ds_image.specs.BadSectors.{HasBadIndex, IsBadPlace, HasNoBad}
 use Rattle.ds_image.specs.Parts.{part_at}
 use Rattle.ds_image.specs.Pending.{IsIndexOf}
-use Rattle.ds_image.specs.Readings.{SpellsSlot, SpellsHeader, IsReading}
+use Rattle.ds_image.specs.Readings.{SpellsSlot, IsReading}
 use Rattle.ds_check.specs.declared.findings.Find.{Find}
 use Rattle.ds_check.specs.Controls.{Controls, owners_of, SpellsOwner, SpellsCluster, SpellsPending, ReadsControls}
 use Rattle.ds_check.specs.Findings.{AreFoundInFront}
@@ -50,7 +47,7 @@ second_false true b none is = none
 second_false false b none is = absurd (cc)
 
 -- no kind has findings where all have none
-each_kind : (each : Kind → List Find) (kind : Kind) → row_of_kinds each ≡ [] → each kind ≡ []
+pub each_kind : (each : Kind → List Find) (kind : Kind) → row_of_kinds each ≡ [] → each kind ≡ []
 each_kind each Fd none = (both-none (each Fd) _ none).0
 each_kind each Sb none = (both-none (each Sb) _ (both-none (each Fd) _ none).1).0
 each_kind each Pb none = (both-none (each Pb) _ (both-none (each Sb) _ (both-none (each Fd) _ none).1).1).0

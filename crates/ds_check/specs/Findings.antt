@@ -1,5 +1,5 @@
 -- What a check finds in the bytes of an image: the findings of the first stage that has any.
-use Rattle.std.specs.Prelude.{◌≡◌, ℕ, ◌↔◌, List, [], ◌∷◌, map, slice_get, Contains, true}
+use Rattle.std.specs.Prelude.{◌≡◌, ℕ, ◌↔◌, ◌⊎◌, List, [], ◌∷◌, map, slice_get, Contains, true}
 use Rattle.std.specs.List.Sorted.{IsStrictlyIncreasing}
 use Rattle.ds_base.specs.declared.geometry.Geom.{Geom}
 use Rattle.ds_base.specs.declared.sectors.Sector.{Sector}
@@ -26,6 +26,8 @@ pub record AreLost (p : Parts) (finds : List Find) : Type 0 where
   pub told : finds ≡ map Lost objects
   pub rising : IsStrictlyIncreasing objects
   pub exact : (o : ℕ) → Contains objects o ↔ IsLost p o
+  -- what is in use and isn't told is reached
+  pub rest : (o : ℕ) → is_used (part_at p.bodies o) ≡ true → Contains objects o ⊎ Reached (tree_of p) o
 
 -- these findings, where there are any, and else those of the last stage
 abbrev pub AreFoundOrLost : Parts → List Find → List Find → Type 0

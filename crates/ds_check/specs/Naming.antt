@@ -1,5 +1,5 @@
 -- The findings of entries and names, directory by directory and room by room.
-use Rattle.std.specs.Prelude.{◌≡◌, ℕ, ◌==◌, ◌&&◌, Bool, false, not, List, length, take, slice_index_or, Option, Some, None}
+use Rattle.std.specs.Prelude.{ℕ, ◌==◌, ◌&&◌, Bool, false, not, List, length, take, slice_index_or, Option, Some, None}
 use Rattle.ds_base.specs.declared.geometry.Geom.{Geom}
 use Rattle.ds_dir.specs.declared.sub_block.Entry.{Entry}
 use Rattle.ds_image.specs.Objects.{is_used}

@@ -1,9 +1,11 @@
 //! The check of sectors.
-ghost use Rattle.std.specs.Prelude.{◌≡◌, [], ◌∷◌, OnOk, IfOk, IfErr, length};
+ghost use Rattle.std.specs.Prelude.{◌≡◌, List, [], ◌∷◌, Result, OnOk, IfOk, IfErr, length};
 ghost use Rattle.ds_base.specs.Geometry.{IsGeom, items_of};
 ghost use Rattle.ds_image.specs.BadSectors.{HasNoBad};
 ghost use Rattle.ds_layout.specs.Places.{total_of};
-ghost use Rattle.ds_check.specs.Checks.{AreFindingsOf, IsCheckFault};
+ghost use Rattle.ds_check.specs.Checks.{AreFindingsOf, IsCheckFault, IsCheckAnswer, OrNoMemory, StandsForTree, VolumeStands};
+ghost use Rattle.ds_check.specs.declared.checking.CheckFault.{CheckFault};
+ghost use Rattle.ds_check.specs.declared.findings.Find.{Find};
 ghost use Rattle.ds_check.specs.Findings.{found_in, AreFindings, AreFoundBehind, AreFoundIn, AreFoundOrLost};
 ghost use Rattle.ds_check.specs.Objects.{metadata_stage, addresses_stage, sharing_stage, marking_stage, naming_stage};
 ghost use Rattle.ds_check.specs.Rows.{first_found};
@@ -34,10 +36,23 @@ pub enum CheckFault {
     BadImage { sector: SectorNo },
 }
 
-/// What is at odds in the sectors of a volume: the findings of the first stage that has any.
+/// What is at odds in the sectors of a volume: the findings of the first stage that has any, which are the only ones. Where there
+/// are none the logical image stands for a tree.
 pub fn check(alloc: Global, sectors: &[Sector]) -> Result<Report, CheckFault>
     ensures findings { IfOk result (AreFindingsOf sectors.now) }
     ensures fault { IfErr result (IsCheckFault sectors.now) }
+    ensures only { (answer : Result (List Find) CheckFault) → IsCheckAnswer sectors.now answer
+        → OrNoMemory result (result ≡ answer) }
+    ensures sound { IfOk result (λ finds. finds ≡ [] → VolumeStands sectors.now) }
+{
+    checked(alloc, sectors)
+}
+
+/// The findings of the volume that these sectors are, or why they are none.
+fn checked(alloc: Global, sectors: &[Sector]) -> Result<Report, CheckFault>
+    ensures findings { IfOk result (AreFindingsOf sectors.now) }
+    ensures fault { IfErr result (IsCheckFault sectors.now) }
+    ensures sound { IfOk result (λ finds. finds ≡ [] → VolumeStands sectors.now) }
 {
     match volume_in(sectors) {
         Err(sector) => Err(CheckFault::BadImage { sector }),
@@ -57,7 +72,8 @@ fn check_volume(
 ) -> Result<Report, NoMemory>
     requires geom { IsGeom geom.now }
     requires size { length sectors.now ≡ total_of geom.now }
-    ensures { IfOk result (AreFindings geom.now id sectors.now) }
+    ensures findings { IfOk result (AreFindings geom.now id sectors.now) }
+    ensures sound { IfOk result (λ finds. finds ≡ [] → StandsForTree geom.now sectors.now) }
 {
     let front = found_in_front(alloc, geom, id, sectors)?;
     if front.is_empty() {
@@ -72,7 +88,8 @@ fn found_behind(alloc: Global, geom: &Geom, sectors: &[Sector]) -> Result<Report
     requires geom { IsGeom geom.now }
     requires size { length sectors.now ≡ total_of geom.now }
     requires good { HasNoBad geom.now sectors.now }
-    ensures { IfOk result (AreFoundBehind geom.now sectors.now) }
+    ensures findings { IfOk result (AreFoundBehind geom.now sectors.now) }
+    ensures sound { IfOk result (λ finds. finds ≡ [] → StandsForTree geom.now sectors.now) }
 {
     match overlay(alloc, geom, &sectors) {
         Err(ImageFault::NoMemory) => Err(NoMemory),

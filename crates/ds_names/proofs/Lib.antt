@@ -1,0 +1,3 @@
+mod NamesInOrder
+mod PageSteps
+mod PagesMade

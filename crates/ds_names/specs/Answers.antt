@@ -2,14 +2,17 @@
 use Rattle.std.specs.Prelude.{ℕ, List, Option, Some, None, Result, Ok, ⊤}
 use Rattle.ds_base.specs.declared.geometry.Geom.{Geom}
 use Rattle.ds_base.specs.declared.names.Key.{Key}
+use Rattle.ds_fd.specs.declared.body.Body.{Body}
+use Rattle.ds_image.specs.Objects.{subs_of, used_rooms}
 use Rattle.ds_image.specs.Parts.{Parts}
 use Rattle.ds_image.specs.Planning.{Answers}
 use Rattle.ds_image.specs.SeenValues.{SeenValue}
 use Rattle.ds_image.specs.declared.asks.Ask.{Ask}
 use Rattle.ds_names.specs.declared.names.NameCall.{NameCall}
 use Rattle.ds_names.specs.declared.names.NameCall.TheVariants as kept
+use Rattle.ds_names.specs.Pages.{page_of}
 use Rattle.ds_plans.specs.Bodies.{dir_of_key}
-use Rattle.ds_plans.specs.Entries.{found_in}
+use Rattle.ds_plans.specs.Entries.{found_in, subs_known}
 use Rattle.ds_plans.specs.Steps.{after, settled}
 use Rattle.ds_plans.specs.declared.entries.Found.{Found}
 use Rattle.ds_tree.specs.declared.calls.CallOf.{CallOf}
@@ -20,6 +23,7 @@ use Rattle.ds_tree.specs.declared.calls.TreeReply.TheVariants as replies
 -- the calls whose planner there is
 abbrev pub IsBuilt : CallOf Key → Type 0
 IsBuilt (calls.Lookup dir name) = ⊤
+IsBuilt (calls.List dir after) = ⊤
 IsBuilt _ = ⊥
 
 -- a planner: the shape of its volume, its host's slot, and its call
@@ -30,6 +34,7 @@ pub record NamesValue : Type 0 where
 
 abbrev pub call_of : NameCall → CallOf Key
 call_of (kept.Lookup dir name) = calls.Lookup dir name
+call_of (kept.List dir after) = calls.List dir after
 
 -- the reply for an entry that was found, or for none
 abbrev pub lookup_reply : Option Found → TreeReply
@@ -41,8 +46,18 @@ abbrev pub lookup_known : Geom → SeenValue → Parts → Key → List ℕ → 
 lookup_known g seen p dir name =
     after (dir_of_key g seen p dir) (λ b. after (found_in g seen p b name) (λ found. Ok (lookup_reply found)))
 
+-- a page of a directory with these sub-blocks is known once all of them are
+abbrev pub page_known : Geom → SeenValue → Parts → Option (List ℕ) → Body → List ℕ → Result TreeReply Ask
+page_known g seen p above b subs = after (subs_known g seen p b subs) (λ _. Ok (page_of above (used_rooms p subs)))
+
+-- a List knows its reply once it knows the directory, and the page there
+abbrev pub list_known : Geom → SeenValue → Parts → Key → Option (List ℕ) → Result TreeReply Ask
+list_known g seen p dir above = after (dir_of_key g seen p dir) (λ b. page_known g seen p above b (subs_of (Some b)))
+
+-- so does each call
 abbrev pub known_by : Geom → SeenValue → Parts → NameCall → Result TreeReply Ask
 known_by g seen p (kept.Lookup dir name) = lookup_known g seen p dir name
+known_by g seen p (kept.List dir above) = list_known g seen p dir above
 
 -- what the planner asks for
 abbrev pub answers_of : NamesValue → Answers

@@ -10,6 +10,7 @@ use Rattle.ds_image.specs.Readings.{Reads}
 use Rattle.ds_image.specs.SeenValues.{SeenValue, look_of}
 use Rattle.ds_image.specs.declared.asks.Ask.{Ask}
 use Rattle.ds_names.specs.Answers.{NamesValue, call_of, answers_of}
+use Rattle.ds_names.specs.Lists.{list_asks}
 use Rattle.ds_names.specs.Lookups.{lookup_asks}
 use Rattle.ds_names.specs.declared.names.NameCall.{NameCall}
 use Rattle.ds_names.specs.declared.names.NameCall.TheVariants as kept
@@ -21,13 +22,16 @@ use Rattle.ds_tree.specs.CallNames.{HasNames}
 -- the directory of a call
 abbrev dir_of : NameCall → Key
 dir_of (kept.Lookup dir name) = dir
+dir_of (kept.List dir above) = dir
 
 asks_of : (g : Geom) (slot : ℕ) (call : NameCall) (seen : SeenValue) (p : Parts) → Reads g (look_of seen) p
     → DirAsks g (call_of call) (dir_of call).object seen p (answers_of (record { geom = g; slot = slot; call = call }) seen p)
 asks_of g slot (kept.Lookup dir name) seen p reads = lookup_asks g dir name seen p reads
+asks_of g slot (kept.List dir above) seen p reads = list_asks g dir above seen p reads
 
 has_dir : (call : NameCall) → Contains (keys_of (call_of call)) (dir_of call)
 has_dir (kept.Lookup dir name) = (0, omega arith, refl)
+has_dir (kept.List dir above) = (0, omega arith, refl)
 
 pub names_keep : (plan : NamesValue) → IsGeom plan.geom → HasNames (call_of plan.call) → AllKeep plan.geom (call_of plan.call) (answers_of plan)
 names_keep plan is names seen p reads =

@@ -1,3 +1,5 @@
 pub mod Answers
 pub mod Laws
+pub mod Lists
 pub mod Lookups
+pub mod Pages

@@ -1,5 +1,5 @@
 //! The planner of calls on names.
-ghost use Rattle.std.specs.Prelude.{◌≡◌, Ok};
+ghost use Rattle.std.specs.Prelude.{◌≡◌, IfSome};
 ghost use Rattle.ds_base.specs.Geometry.{IsGeom};
 ghost use Rattle.ds_base.specs.Names.{IsName};
 ghost use Rattle.ds_image.specs.Parts.{Parts};
@@ -8,6 +8,7 @@ ghost use Rattle.ds_image.specs.SeenValues.{look_of};
 ghost use Rattle.ds_names.specs.Answers.{IsBuilt, answers_of, call_of, known_by, lookup_known};
 ghost use Rattle.ds_tree.specs.CallNames.{HasNames};
 
+use crate::listing::list;
 use ds_base::{Geom, Key, Name, SlotNo, Word};
 use ds_image::{Ask, Plan, Seen};
 use ds_plans::{dir_of_key, find};
@@ -18,6 +19,7 @@ use std::marker::Model;
 #[derive(Debug, Drop)]
 pub enum NameCall {
     Lookup { dir: Key, name: Name },
+    List { dir: Key, after: Option<Name> },
 }
 
 /// What a host does for a call on names: which lock it takes next, which sector it reads next, and what it answers then.
@@ -39,8 +41,28 @@ impl Model for Names {
     ghost invariant = { λ names. IsGeom names.geom };
 }
 
+impl NameCall {
+    fn of(call: &Call) -> NameCall
+        requires built { IsBuilt call.now }
+        requires names { HasNames call.now }
+        ensures { call_of result ≡ call.now }
+    {
+        match call {
+            CallOf::Lookup { dir, name } => NameCall::Lookup {
+                dir: *dir,
+                name: name_of(name),
+            },
+            CallOf::List { dir, after } => NameCall::List {
+                dir: *dir,
+                after: name_of_optional(after),
+            },
+            _ => unreachable!(),
+        }
+    }
+}
+
 impl Names {
-    /// The planner of a Lookup, for a host with this slot; each word of the call is a name.
+    /// The planner of a Lookup or a List, for a host with this slot; each word of the call is a name.
     pub fn new(geom: &Geom, slot: SlotNo, call: &Call) -> Names
         requires geom { IsGeom geom.now }
         requires built { IsBuilt call.now }
@@ -49,14 +71,10 @@ impl Names {
         ensures slot { result.slot ≡ slot }
         ensures call { call_of result.call ≡ call.now }
     {
-        let CallOf::Lookup { dir, name } = call else {
-            unreachable!()
-        };
-        let name = name_of(name);
         Names {
             geom: *geom,
             slot,
-            call: NameCall::Lookup { dir: *dir, name },
+            call: NameCall::of(call),
         }
     }
 
@@ -77,6 +95,7 @@ impl Names {
     {
         match &self.call {
             NameCall::Lookup { dir, name } => lookup(&self.geom, seen, dir, name),
+            NameCall::List { dir, after } => list(&self.geom, seen, dir, after),
         }
     }
 }
@@ -90,6 +109,16 @@ fn name_of(word: &Word) -> Name
         unreachable!()
     };
     name
+}
+
+fn name_of_optional(word: &Option<Word>) -> Option<Name>
+    requires { IfSome word.now IsName }
+    ensures { result ≡ word.now }
+{
+    match word {
+        Some(word) => Some(name_of(word)),
+        None => None,
+    }
 }
 
 /// What Lookup answers.

@@ -1,5 +1,5 @@
 -- A sector spells the same part wherever it is looked at.
-use Rattle.std.proofs.Common.{◌≡◌, ℕ, ◌<◌, List, Option, Some, None, refl, sym, ap, subst, ◌∙◌}
+use Rattle.std.proofs.Common.{◌≡◌, ℕ, ◌<◌, Option, Some, None, refl, sym, ap, subst, ◌∙◌}
 use Rattle.ds_base.specs.Decoding.{IsDecoded}
 use Rattle.ds_base.specs.Geometry.{items_of}
 use Rattle.ds_base.specs.declared.geometry.Geom.{Geom}

@@ -1,6 +1,5 @@
 -- A planner whose call reads one directory keeps the law of planners.
-use Rattle.std.proofs.Common.{◌≡◌, ℕ, zero, suc, ◌+◌, ◌<◌, ◌≤◌, ◌==◌, ◌||◌, Bool, true, false, nat_eq, cond, if◌then◌else◌, List, [], ◌∷◌, ◌++◌, length, map, Option, None, Some, inl, inr, refl, sym, ap, subst, ◌∙◌, arith, length-append, length-take, ◌⊎◌}
-use Rattle.std.specs.Prelude.{⊤, IsSome}
+use Rattle.std.proofs.Common.{◌≡◌, ℕ, suc, ◌<◌, ◌≤◌, ◌==◌, ◌||◌, Bool, true, false, nat_eq, if◌then◌else◌, List, [], ◌∷◌, ◌++◌, length, map, Option, None, Some, inl, inr, refl, sym, ap, subst, ◌∙◌, arith, length-append, length-take, ◌⊎◌}
 use Rattle.std.specs.List.{list_any, IsDistinct, Contains}
 use Rattle.std.specs.Option.{option_or}
 use Rattle.std.proofs.lemmas.Bool.{false≢true, cases_Bool}
@@ -32,7 +31,7 @@ use Rattle.ds_image.specs.declared.asks.Ask.{Ask}
 use Rattle.ds_image.specs.declared.asks.Ask.TheVariants as asks
 use Rattle.ds_image.proofs.Seeing.{sector_in-append}
 use Rattle.ds_image.proofs.Sizes.{body_is}
-use Rattle.ds_layout.specs.Places.{place_sector, IsLock}
+use Rattle.ds_layout.specs.Places.{place_sector}
 use Rattle.ds_layout.specs.declared.places.Place.TheVariants as places
 use Rattle.ds_plans.specs.DirAsks.{dir_sectors, DirAsks}
 use Rattle.ds_plans.specs.Locks.{MayLock, IsAllowed, keys_of, of_key}
@@ -68,7 +67,7 @@ dir_keeps g call dir seen p ask is = record { form = form_of g call dir seen p a
 -- the only lock is that of the directory
 pub dir_allowed : (g : Geom) (slot : ℕ) (call : CallOf Key) (dir : Key) (seen : SeenValue) (p : Parts) (ask : Ask) → Contains (keys_of call) dir
     → DirAsks g call dir.object seen p ask → IsAllowed g slot call p ask
-dir_allowed g slot call dir seen p (asks.Lock object) named is = subst (MayLock g slot call p) (sym is.0) (of_key dir named)
+dir_allowed g slot call dir seen p (asks.Lock object) named is = subst (MayLock g slot call p) (sym is.0) (of_key dir named is.1)
 dir_allowed g slot call dir seen p (asks.Read at) named is = tt
 dir_allowed g slot call dir seen p (asks.Odd at) named is = tt
 dir_allowed g slot call dir seen p (asks.Worn object) named is = tt

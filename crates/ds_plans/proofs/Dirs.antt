@@ -1,8 +1,7 @@
 -- The body of a key's directory: what is asked for before it is known, and what the tree says of it.
-use Rattle.std.proofs.Common.{◌≡◌, ℕ, ◌*◌, ◌<◌, ◌≤◌, ◌==◌, ◌&&◌, Bool, true, false, nat_eq, nat_lt, if◌then◌else◌, List, [], ◌∷◌, length, map, Option, None, Some, refl, sym, ap, subst, ◌∙◌, arith, slice_get, is_some}
-use Rattle.std.specs.Prelude.{IsSome, Result, Ok, Err}
-use Rattle.std.specs.List.{list_any}
-use Rattle.std.proofs.lemmas.Bool.{false≢true, cases_Bool}
+use Rattle.std.proofs.Common.{◌≡◌, ℕ, ◌*◌, ◌<◌, ◌==◌, ◌&&◌, Bool, true, false, nat_lt, if◌then◌else◌, List, Option, None, Some, refl, sym, ap, ◌∙◌, arith, slice_get, is_some}
+use Rattle.std.specs.Prelude.{IsSome}
+use Rattle.std.proofs.lemmas.Bool.{false≢true}
 use Rattle.std.proofs.lemmas.Bool.Decides.{nat_tests}
 use Rattle.std.proofs.lemmas.Cmp.{nat_eq_equiv}
 use Rattle.std.proofs.lemmas.List.{get_or_past}
@@ -14,8 +13,8 @@ use Rattle.ds_base.specs.declared.names.NodeKind.{NodeKind}
 use Rattle.ds_base.specs.declared.names.NodeKind.TheVariants as kinds
 use Rattle.ds_base.specs.declared.sectors.Sector.{Sector}
 use Rattle.ds_fd.specs.declared.body.Body.{Body}
-use Rattle.ds_image.specs.Asking.{Agrees, IsGuarded}
-use Rattle.ds_image.specs.Objects.{subs_by, subs_of, blocks_by, entries_of, node_by, object_of}
+use Rattle.ds_image.specs.Asking.{Agrees}
+use Rattle.ds_image.specs.Objects.{subs_by, blocks_by, entries_of, node_by, object_of}
 use Rattle.ds_image.specs.Parts.{Parts, part_at}
 use Rattle.ds_image.specs.Readings.{Reads}
 use Rattle.ds_image.specs.SeenValues.{SeenValue, has_lock, look_of}
@@ -25,8 +24,8 @@ use Rattle.ds_image.specs.declared.asks.Ask.TheVariants as asks
 use Rattle.ds_image.proofs.TreeParts.{object-is}
 use Rattle.ds_layout.specs.Places.{place_sector}
 use Rattle.ds_layout.specs.declared.places.Place.TheVariants as places
-use Rattle.ds_plans.specs.Bodies.{part_seen, body_seen, body_alive, body_of_key, dir_by, body_of_dir, dir_of_key}
-use Rattle.ds_plans.specs.DirAsks.{dir_sectors, DirAsks}
+use Rattle.ds_plans.specs.Bodies.{body_seen, body_alive, body_of_key, dir_by, body_of_dir, dir_of_key}
+use Rattle.ds_plans.specs.DirAsks.{DirAsks}
 use Rattle.ds_plans.specs.DirSeen.{HasDir}
 use Rattle.ds_plans.specs.Goes.{Goes}
 use Rattle.ds_plans.proofs.Alike.{body_alike}
@@ -85,7 +84,7 @@ dir_in g seen p dir b image t stands reads agrees is =
     let object : object_at t dir.object ≡ record { birth = b.birth; node = node_by q b b.kind } = object_in g image t dir.object (Some b) stands body in (
       body,
       object ∙ ap (λ (birth : ℕ). record { birth = birth; node = node_by q b b.kind }) is.sees.life
-      ∙ ap (λ (kind : Option NodeKind). record { birth = dir.birth; node = node_by q b kind }) is.sees.is_kind,
+          ∙ ap (λ (kind : Option NodeKind). record { birth = dir.birth; node = node_by q b kind }) is.sees.is_kind,
     )
 
 module _ (g : Geom) (call : CallOf Key) (dir : Key) (seen : SeenValue) (p : Parts) (reads : Reads g (look_of seen) p)

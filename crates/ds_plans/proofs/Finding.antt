@@ -1,5 +1,5 @@
 -- Finding a name in a directory: what is asked for before it is known, and what the tree says of it.
-use Rattle.std.proofs.Common.{◌≡◌, ℕ, zero, suc, ◌+◌, ◌/◌, ◌<◌, ◌==◌, ◌||◌, Bool, true, false, nat_eq, nat_lt, if◌then◌else◌, List, [], ◌∷◌, ◌++◌, length, map, Option, None, Some, inl, inr, refl, sym, ap, subst, ◌∙◌, arith, slice_get, is_some}
+use Rattle.std.proofs.Common.{◌≡◌, ℕ, zero, suc, ◌+◌, ◌/◌, ◌<◌, ◌==◌, ◌||◌, Bool, true, false, nat_eq, nat_lt, if◌then◌else◌, List, [], ◌∷◌, ◌++◌, map, Option, None, Some, inl, inr, refl, sym, ap, subst, ◌∙◌, arith, slice_get, is_some}
 use Rattle.std.specs.Prelude.{IsSome, Result, Ok, Err, bytes_eq, option_map, slice_index_or}
 use Rattle.std.specs.List.{list_any, filter_map}
 use Rattle.std.specs.Cmp.Lexicographic.{slice_cmp}
@@ -13,9 +13,8 @@ use Rattle.std.proofs.lemmas.Map.Text.{is_eq-slice_cmp}
 use Rattle.std.proofs.lemmas.Slice.Eq.{bytes_eq-Decides}
 use Rattle.ds_base.specs.Geometry.{items_of, per_cluster}
 use Rattle.ds_base.specs.declared.geometry.Geom.{Geom}
-use Rattle.ds_base.specs.declared.geometry.Kind.TheVariants.{Fd, Sb}
+use Rattle.ds_base.specs.declared.geometry.Kind.TheVariants.{Sb}
 use Rattle.ds_base.specs.declared.names.Key.{Key}
-use Rattle.ds_base.specs.declared.names.NodeKind.{NodeKind}
 use Rattle.ds_base.specs.declared.names.NodeKind.TheVariants as kinds
 use Rattle.ds_base.specs.declared.sectors.Sector.{Sector}
 use Rattle.ds_dir.specs.declared.sub_block.Entry.{Entry}
@@ -38,9 +37,9 @@ use Rattle.ds_image.proofs.SoundParts.{list-is}
 use Rattle.ds_layout.specs.Places.{place_sector, cluster_lock}
 use Rattle.ds_layout.specs.declared.places.Place.TheVariants as places
 use Rattle.ds_plans.specs.Bodies.{part_seen, sub_seen}
-use Rattle.ds_plans.specs.DirAsks.{dir_sectors, DirAsks}
-use Rattle.ds_plans.specs.DirSeen.{HasDir, HasSub, said_found, said_entry, IsFoundIn}
-use Rattle.ds_plans.specs.Entries.{entry_named, room_found, found_among, found_from, found_in}
+use Rattle.ds_plans.specs.DirAsks.{DirAsks}
+use Rattle.ds_plans.specs.DirSeen.{HasDir, HasSub, said_found, said_entry, IsFoundIn, AreAllIn}
+use Rattle.ds_plans.specs.Entries.{entry_named, found_among, found_from, found_in, subs_known}
 use Rattle.ds_plans.specs.Goes.{Goes}
 use Rattle.ds_plans.specs.declared.entries.Found.{Found}
 use Rattle.ds_plans.proofs.Alike.{sub_alike}
@@ -145,6 +144,31 @@ named-find (e ∷ es) name =
       | true ↦ refl
       | false ↦ named-find es name
     ])
+
+-- the entries of a sub-block that was seen, and those of the others
+pub used_seen : (p : Parts) (n : ℕ) (block : SubBlock) (subs : List ℕ) → part_at p.subs n ≡ Some block
+    → used_rooms p (n ∷ subs) ≡ filter_map (λ room. room) block.rooms ++ used_rooms p subs
+used_seen p n block subs there =
+    filter_map-append (λ room. room) (rooms_in (part_at p.subs n)) (rooms_of p subs)
+    ∙ ap (λ (r : Option SubBlock). filter_map (λ room. room) (rooms_in r) ++ used_rooms p subs) there
+
+-- a sub-block that is known was seen
+pub seen-there : {V : Type 0} (at : ℕ) (look : Option Sector) (part : Option V) (v : V) → part_seen at look part ≡ Ok v → part ≡ Some v
+seen-there at None part v is = absurd cc
+seen-there at (Some s) None v is = absurd cc
+seen-there at (Some s) (Some w) v is = let same : w ≡ v = cc in ap Some same
+
+pub sub-there : (g : Geom) (seen : SeenValue) (p : Parts) (b : Body) (n : ℕ) (block : SubBlock) → sub_seen g seen p b n ≡ Ok block
+    → part_at p.subs n ≡ Some block
+sub-there g seen p b n block is = elim (cases_Bool (nat_lt n (items_of g Sb))) [
+  | inl inside ↦
+      seen-there (place_sector g (places.SubBlock n)) (look_of seen (place_sector g (places.SubBlock n))) (part_at p.subs n) block
+      (sym (ap (λ test. if test then part_seen (place_sector g (places.SubBlock n)) (look_of seen (place_sector g (places.SubBlock n))) (part_at p.subs n) else Err (asks.Odd (place_sector g (places.Body b.object)))) inside) ∙ is)
+  | inr past ↦
+      let wrong : ◌≡◌ {A = Result SubBlock Ask} (Err (asks.Odd (place_sector g (places.Body b.object)))) (Ok block) =
+      sym (ap (λ test. if test then part_seen (place_sector g (places.SubBlock n)) (look_of seen (place_sector g (places.SubBlock n))) (part_at p.subs n) else Err (asks.Odd (place_sector g (places.Body b.object)))) past) ∙ is in
+      absurd cc
+]
 
 module _ (g : Geom) (call : CallOf Key) (dir : Key) (seen : SeenValue) (p : Parts) (reads : Reads g (look_of seen) p) (b : Body) (has : HasDir g seen p dir b) where
   abbrev Good : Ask → Type 0
@@ -278,3 +302,22 @@ module _ (g : Geom) (call : CallOf Key) (dir : Key) (seen : SeenValue) (p : Part
   -- the entry is known, or what is asked for is good
   pub find_goes : (name : List ℕ) → Goes Good (found_in g seen p b name) (IsFoundIn g seen (subs_of (Some b)) name)
   find_goes name = found_goes name 0 (subs_of (Some b)) (λ i n at. let same : 0 + i ≡ i = omega arith in subst (λ k. slice_get (subs_of (Some b)) k ≡ Some n) (sym same) at)
+
+  known_goes : (before : ℕ) (subs : List ℕ) → ((i n : ℕ) → slice_get subs i ≡ Some n → slice_get (subs_of (Some b)) (before + i) ≡ Some n)
+      → Goes Good (subs_known g seen p b subs) (λ c. AreAllIn g seen p subs)
+  known_goes before [] are = λ image t stands agrees. refl
+  known_goes before (n ∷ subs) are =
+      let at : slice_get (subs_of (Some b)) before ≡ Some n = let same : before + 0 ≡ before = omega arith in subst (λ k. slice_get (subs_of (Some b)) k ≡ Some n) same (are 0 n refl) in
+      let later = known_goes (suc before) subs
+      (λ i m at. let same : suc before + i ≡ before + suc i = omega arith in subst (λ k. slice_get (subs_of (Some b)) k ≡ Some m) (sym same) (are (suc i) m at)) in
+      let Known : Body → Type 0 = λ c. AreAllIn g seen p (n ∷ subs) in
+      goes-after Good (HasSub g seen p n) Known (sub_seen g seen p b n) _ (sub_goes before n at)
+      (λ block is.
+      goes-weaker Good (λ c. AreAllIn g seen p subs) Known (subs_known g seen p b subs) later
+      (λ c same image t stands agrees.
+      used_seen p n block subs is.there ∙ ap (λ es. filter_map (λ room. room) block.rooms ++ es) (same image t stands agrees)
+      ∙ sym (used_more image t stands agrees n block subs is)))
+
+  -- all sub-blocks are known, or what is asked for is good
+  pub whole_goes : Goes Good (subs_known g seen p b (subs_of (Some b))) (λ c. AreAllIn g seen p (subs_of (Some b)))
+  whole_goes = known_goes 0 (subs_of (Some b)) (λ i n at. let same : 0 + i ≡ i = omega arith in subst (λ k. slice_get (subs_of (Some b)) k ≡ Some n) (sym same) at)

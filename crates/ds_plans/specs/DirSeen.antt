@@ -47,3 +47,8 @@ abbrev pub IsFoundIn : Geom → SeenValue → List ℕ → List ℕ → Option F
 IsFoundIn g seen subs name found =
     (image : List Sector) (t : FileTree) (stands : StandsFor g image t) → Agrees seen image
     → said_found found ≡ said_entry (entry_named (used_rooms stands.parts subs) name)
+
+-- the entries that were seen are those of each image that agrees with what was seen
+abbrev pub AreAllIn : Geom → SeenValue → Parts → List ℕ → Type 0
+AreAllIn g seen p subs =
+    (image : List Sector) (t : FileTree) (stands : StandsFor g image t) → Agrees seen image → used_rooms p subs ≡ used_rooms stands.parts subs

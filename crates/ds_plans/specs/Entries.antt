@@ -1,5 +1,5 @@
 -- Entries of a directory by name.
-use Rattle.std.specs.Prelude.{◌≡◌, ℕ, suc, bytes_eq, if◌then◌else◌, Bool, List, [], ◌∷◌, Option, Some, None, Result, Ok, Err}
+use Rattle.std.specs.Prelude.{ℕ, suc, bytes_eq, if◌then◌else◌, List, [], ◌∷◌, Option, Some, None, Result, Ok}
 use Rattle.ds_base.specs.declared.geometry.Geom.{Geom}
 use Rattle.ds_dir.specs.declared.sub_block.Entry.{Entry}
 use Rattle.ds_fd.specs.declared.body.Body.{Body}
@@ -42,3 +42,8 @@ found_from g seen p b name sub (n ∷ subs) =
 -- the first room with the name in a directory
 abbrev pub found_in : Geom → SeenValue → Parts → Body → List ℕ → Result (Option Found) Ask
 found_in g seen p b name = found_from g seen p b name 0 (subs_of (Some b))
+
+-- these sub-blocks of a directory are known once each was read
+abbrev pub subs_known : Geom → SeenValue → Parts → Body → List ℕ → Result Body Ask
+subs_known g seen p b [] = Ok b
+subs_known g seen p b (n ∷ subs) = after (sub_seen g seen p b n) (λ block. subs_known g seen p b subs)

@@ -1,5 +1,5 @@
 -- Which locks a planner may ask for, by the call and by what it has seen: the parts p that the sectors spell which were read.
-use Rattle.std.specs.Prelude.{◌≡◌, ◌≢◌, ⊤, ℕ, zero, suc, ◌+◌, ◌-◌, ◌*◌, ◌/◌, ◌%◌, ◌<◌, ◌≤◌, ◌⊎◌, not, nat_le, if◌then◌else◌, List, [], ◌∷◌, length, slice_get, slice_index, Option, Some, None, IsSome, false}
+use Rattle.std.specs.Prelude.{◌≡◌, ◌≢◌, ⊤, ℕ, ◌+◌, ◌-◌, ◌*◌, ◌/◌, ◌%◌, ◌<◌, ◌≤◌, not, nat_le, if◌then◌else◌, List, [], ◌∷◌, length, slice_get, slice_index, Option, Some, None, IsSome, false}
 use Rattle.std.specs.List.{Contains, count_by, sum_by, range_with_len}
 use Rattle.ds_base.specs.declared.geometry.Geom.{Geom}
 use Rattle.ds_base.specs.declared.geometry.Kind.{Kind}
@@ -7,7 +7,7 @@ use Rattle.ds_base.specs.declared.geometry.Kind.TheVariants.{Fd, Sb, Pb, Fb}
 use Rattle.ds_base.specs.declared.names.Key.{Key}
 use Rattle.ds_base.specs.declared.names.NodeKind.{NodeKind}
 use Rattle.ds_base.specs.declared.names.NodeKind.TheVariants as kinds
-use Rattle.ds_base.specs.Geometry.{clusters_of, per_cluster}
+use Rattle.ds_base.specs.Geometry.{clusters_of, per_cluster, items_of}
 use Rattle.ds_bitmap.specs.Bits.{Bitmap}
 use Rattle.ds_dir.specs.declared.sub_block.Entry.{Entry}
 use Rattle.ds_fd.specs.declared.body.Body.{Body}
@@ -199,12 +199,13 @@ IsClear g p object =
     slice_get (used_bits (part_at p.fd_maps (object / per_cluster g Fd))) (object % per_cluster g Fd) ≡ Some false
 
 -- a planner may ask to lock the object of a key of the call; that of the entry which it removes; a free descriptor for a new
--- object; and a cluster in which it gives up an item, or in which it looks for items that it needs
+-- object; and a cluster in which it gives up an item, or in which it looks for items that it needs: all of them descriptors and
+-- clusters of the volume
 pub data MayLock (g : Geom) (slot : ℕ) (call : CallOf Key) (p : Parts) : ℕ → Type 0 where
-  of_key : (key : Key) → Contains (keys_of call) key → MayLock g slot call p key.object
-  of_entry : (e : Entry) → RemovesEntry p call e → MayLock g slot call p e.key.object
+  of_key : (key : Key) → Contains (keys_of call) key → key.object < items_of g Fd → MayLock g slot call p key.object
+  of_entry : (e : Entry) → RemovesEntry p call e → e.key.object < items_of g Fd → MayLock g slot call p e.key.object
   of_new : (object : ℕ) → WantsDescriptor p call → IsClear g p object → MayLock g slot call p object
-  to_give : (kind : Kind) (n : ℕ) → GivesUp p call kind n → MayLock g slot call p (cluster_lock kind (n / per_cluster g kind))
+  to_give : (kind : Kind) (n : ℕ) → GivesUp p call kind n → n < items_of g kind → MayLock g slot call p (cluster_lock kind (n / per_cluster g kind))
   to_take : (kind : Kind) (count cluster : ℕ) → Needs p call kind count → IsNext g slot p kind count cluster
       → MayLock g slot call p (cluster_lock kind cluster)
 

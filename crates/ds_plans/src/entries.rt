@@ -1,5 +1,5 @@
 //! Entries of a directory by name.
-ghost use Rattle.std.specs.Prelude.{◌≡◌, ◌<◌, Some};
+ghost use Rattle.std.specs.Prelude.{◌≡◌, ◌<◌, ◌≤◌, Some, length};
 ghost use Rattle.ds_base.specs.Geometry.{IsGeom, items_of};
 ghost use Rattle.ds_base.specs.declared.geometry.Kind.TheVariants.{Fd};
 ghost use Rattle.ds_fd.specs.Body.{IsBody};
@@ -43,7 +43,8 @@ pub fn find(geom: &Geom, seen: &Seen, dir: &Body, name: &Name) -> Result<Option<
 /// The sub-blocks that a directory's body lists; none of anything else.
 #[tactic(auto, using(std::proofs::lemmas::List::take_min))]
 pub fn subs_of(body: &Body) -> &[u32]
-    ensures { result.now ≡ subs_of (Some body.now) }
+    ensures subs { result.now ≡ subs_of (Some body.now) }
+    ensures few { length result.now ≤ 96 }
 {
     match body.kind {
         Some(NodeKind::Dir) => &body.addresses[..(body.count as usize).min(96)],

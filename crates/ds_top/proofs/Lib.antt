@@ -1,5 +1,8 @@
-mod Cuts
-mod FirstLineLaws
-mod FirstListLaws
 mod EdgeLaws
-pub mod PromiseLaws
+mod PromiseLaws
+mod CauseLaws
+mod FormatLaws
+mod ImageLaws
+mod SectorLaws
+mod CheckLaws
+mod RunLaws

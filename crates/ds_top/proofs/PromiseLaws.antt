@@ -1,10 +1,7 @@
--- What the parts of a run come to.
-use Rattle.std.proofs.Common.{◌≡◌, ℕ, suc, ◌≤◌, ◌==◌, Bool, true, map, List, [], ◌∷◌, length, get_or, refl, ap, sym, subst, ◌∙◌, arith, Option, Some, None}
-use Rattle.std.specs.Prelude.{slice_get, IfSome}
-use Rattle.std.specs.Str.{bytes_eq}
+-- What the parts of a replay come to.
+use Rattle.std.proofs.Common.{◌≡◌, ℕ, List, length, get_or, ap, sym, subst, ◌∙◌, arith, Some}
+use Rattle.std.specs.Prelude.{slice_get}
 use Rattle.std.proofs.Math.Seq.{take-length}
-use Rattle.std.proofs.lemmas.Bool.Decides.{nat_tests}
-use Rattle.std.proofs.lemmas.Slice.Eq.{bytes_eq-Decides}
 use Rattle.std.proofs.lemmas.Option.{slice_get-get_or}
 use Rattle.ds_base.specs.declared.geometry.Geom.{Geom}
 use Rattle.ds_tree.specs.declared.scenarios.Scenario.{Scenario}
@@ -21,10 +18,7 @@ use Rattle.ds_world.specs.Scripts.{calls_of}
 use Rattle.ds_world.specs.Follows.{Follows, IsAtEnd, InReplayOrder}
 use Rattle.ds_world.specs.FirstRules.{first_rules}
 use Rattle.ds_report.specs.Report.{report_of, AreInOrder}
-use Rattle.ds_top.specs.declared.outcome.Why.{Why}
-use Rattle.ds_top.specs.declared.outcome.Why.TheVariants.{Done, BadLine, TooLarge, BadWords, ReadFault, WriteFault, Memory}
-use Rattle.ds_top.specs.Edges.{IsReadWhole}
-use Rattle.ds_top.specs.Promise.{IsReplayOf, Allows, RefusesBytes, most_bytes}
+use Rattle.ds_top.specs.Promise.{IsReplayOf}
 
 -- the replies of a log that follows a scenario are in the order of their events
 pub in_order : (s : Scenario) (events : List Event) (replies : List Reply) → Follows first_rules.start s events replies → AreInOrder replies
@@ -70,36 +64,3 @@ replayed s w log kept t text form same is headline follows at_end order changes 
     let O : Scenario → Type 0 = λ x. InReplayOrder (length x.hosts) x.steps log.events in
     let K : LogValue → Type 0 = λ x. IsReplayOf s x text in
     subst K (sym is) (whole_replay s log t text (subst G geom (subst H same headline)) (subst F same follows) (subst E same at_end) (subst O same order) changes only is_report)
-
--- a refusal of bytes within the limit is allowed
-pub allows_refused : (bytes : List ℕ) (why : Why) → length bytes ≤ most_bytes → RefusesBytes bytes why → Allows bytes why
-allows_refused bytes (BadLine line why) le refused = (refused.0, refused.1, le, refused.2)
-allows_refused bytes Memory le refused = tt
-allows_refused bytes Done le refused = absurd refused
-allows_refused bytes (TooLarge what) le refused = absurd refused
-allows_refused bytes BadWords le refused = absurd refused
-allows_refused bytes ReadFault le refused = absurd refused
-allows_refused bytes WriteFault le refused = absurd refused
-
--- what the bytes that were read allow, the bytes of the source allow
-pub input_read : (left left' : Option (List ℕ)) (bytes : List ℕ) (why : Why) → IsReadWhole left left' bytes → Allows bytes why → IfSome left (λ all. Allows all why)
-input_read None left' bytes why whole allows = tt
-input_read (Some all) left' bytes why whole allows = let P : List ℕ → Type 0 = λ xs. Allows xs why in subst P (sym whole.0) allows
-
-some_left : (n : ℕ) → true ≡ (suc n == 0) → ⊥
-some_left n is = grind (arith, nat_tests)
-
-none_left : {A : Type 0} (rest : List A) → true ≡ (length rest == 0) → rest ≡ []
-none_left [] e = refl
-none_left (x ∷ rest) e = absurd (some_left (length rest) e)
-
--- one word that compares equal is the list of that word
-pub one_word : {A : Type 0} (f : A → List ℕ) (words : List A) (word : A) (rest : List A) (b : Bool) (bytes other want : List ℕ) → words ≡ word ∷ rest → true ≡ (length rest == 0)
-    → b ≡ bytes_eq bytes other → bytes ≡ f word → other ≡ want → (b ≡ true → map f words ≡ want ∷ []) × (map f words ≡ want ∷ [] → b ≡ true)
-one_word f words word rest b bytes other want is none compared shown wanted =
-    let alone : words ≡ word ∷ [] = is ∙ ap (λ xs. word ∷ xs) (none_left rest none) in
-    let same : map f words ≡ f word ∷ [] = ap (map f) alone in
-    let decides = bytes_eq-Decides bytes other in (
-      (λ yes'. same ∙ ap (λ (x : List ℕ). x ∷ []) (sym shown ∙ decides.0 (sym compared ∙ yes') ∙ wanted)),
-      (λ e. let head : f word ≡ want = cc (sym same ∙ e) in compared ∙ decides.1 (shown ∙ head ∙ sym wanted)),
-    )

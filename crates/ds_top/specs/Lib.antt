@@ -1,4 +1,7 @@
+pub mod Commands
 pub mod Outcomes
 pub mod Edges
-pub mod FirstLines
+pub mod Images
+pub mod Causes
 pub mod Promise
+pub mod Runs

@@ -7,6 +7,9 @@ use ds_base::{Source, Taken};
 use std::alloc::Global;
 use thiserror::Error;
 
+/// The most bytes of a text.
+pub(crate) const MOST_BYTES: usize = 1_048_576;
+
 /// Why not all input was read.
 #[derive(Clone, Copy, Debug, PartialEq, Eq, Error)]
 pub enum InputFault {

@@ -1,16 +1,20 @@
-//! The program: it replays a scenario that it reads, and writes the report.
+//! The program: it replays scenarios, formats volumes, and checks images.
 #![tactic(auto)]
 
-mod first_form;
+mod checking;
+mod commands;
+mod formatting;
+mod image_input;
 mod input;
+mod listing;
 mod outcome;
 mod output;
 mod replaying;
 mod running;
 
 use ds_base::{StdSink, StdSource};
-use outcome::Why;
-use running::{Outcome, plain, refused};
+use outcome::{Why, refused};
+use running::plain;
 use std::alloc::AllocError;
 use std::process::ExitCode;
 use std::{env, io};
@@ -46,5 +50,7 @@ fn words(rt: &HostRuntime) -> io::Result<Vec<String>> {
     Ok(words)
 }
 
+#[cfg(test)]
+mod image_tests;
 #[cfg(test)]
 mod tests;

@@ -1,40 +1,109 @@
 //! The replay of a scenario.
-ghost use Rattle.std.specs.Prelude.{◌≡◌, ◌<◌, ◌≤◌, IfOk, OnOk, length};
+ghost use Rattle.std.specs.Prelude.{◌≡◌, Some, ◌≤◌, IfOk, OnOk, MatchResult, length};
 ghost use Rattle.ds_tree.specs.FirstForm.{IsFirstForm};
 ghost use Rattle.ds_world.specs.Scripts.{list_of};
+ghost use Rattle.ds_script.specs.Answers.{IsScenarioText};
+ghost use Rattle.ds_top.specs.declared.commands.Command.{Command};
+ghost use Rattle.ds_top.specs.Causes.{IsRunnable};
 ghost use Rattle.ds_top.specs.Promise.{IsReplayOf};
+ghost use Rattle.ds_top.specs.Runs.{IsCaused, IsMade, IsRefused, IsMadeOf, IsRefusedOf, bytes_in};
 
-use ds_base::NoMemory;
+use crate::input::{MOST_BYTES, read_all};
+use crate::outcome::Why;
+use crate::output::{Body, Output};
+use ds_base::{NoMemory, Source};
+use ds_script::read;
 use ds_tree::Scenario;
-use ds_world::{FirstWorld, Log, Moved};
+use ds_world::{FirstWorld, Log, Moved, not_built};
 use std::alloc::Global;
+
+/// Reads a scenario, and makes the report of its replay.
+pub(crate) fn read_and_replay<S: Source>(alloc: Global, source: &mut S) -> Result<Output, Why>
+    ensures { MatchResult result
+        (λ it. IsMade Command.Replay (S.left source.old) (S.left source.new) it.why it.log (bytes_in it.body))
+        (λ why. IsRefused Command.Replay (S.left source.old) (S.left source.new) (S.faults source.old) (S.faults source.new) why) }
+{
+    match read_all(alloc, source, MOST_BYTES) {
+        Ok(bytes) => replay_text(alloc, bytes.as_slice()),
+        Err(fault) => Err(Why::from(fault)),
+    }
+}
+
+/// The report of the replay of the scenario that these bytes are.
+fn replay_text(alloc: Global, bytes: &[u8]) -> Result<Output, Why>
+    ensures { MatchResult result
+        (λ it. IsMadeOf Command.Replay bytes.now it.why it.log (bytes_in it.body))
+        (λ why. IsRefusedOf Command.Replay bytes.now why) }
+{
+    let scenario = match scenario_of(alloc, bytes) {
+        Ok(scenario) => scenario,
+        Err(why) => return Err(why),
+    };
+    match replay_of(alloc, &scenario) {
+        Ok(it) => Ok(report(it)),
+        Err(_) => Err(Why::Memory),
+    }
+}
+
+/// The scenario that these bytes are, where it can be run now.
+fn scenario_of(alloc: Global, bytes: &[u8]) -> Result<Scenario, Why>
+    ensures { MatchResult result
+        (λ s. IsRunnable bytes.now s × IsCaused Command.Replay bytes.now Why.Done)
+        (λ why. IsRefusedOf Command.Replay bytes.now why) }
+{
+    let scenario = match read(alloc, bytes) {
+        Ok(scenario) => scenario,
+        Err(fault) => return Err(Why::from(fault)),
+    };
+    match not_built(&scenario) {
+        Some(at) => Err(Why::NotBuilt {
+            host: at.0,
+            directive: at.1,
+        }),
+        None => Ok(scenario),
+    }
+}
 
 /// A replay: its log, and its report.
 #[derive(Drop)]
-pub(crate) struct Replay {
-    pub(crate) log: Log,
-    pub(crate) text: Vec<u8>,
+struct Replay {
+    log: Log,
+    text: Vec<u8>,
+}
+
+fn report(it: Replay) -> Output
+    ensures { result ≡ record { why = Why.Done; log = Some it.log; body = Body.Text it.text } }
+{
+    let Replay { log, text } = it;
+    Output {
+        why: Why::Done,
+        log: Some(log),
+        body: Body::Text(text),
+    }
 }
 
 /// Replays a scenario to the end of every host's list.
-pub(crate) fn replay_of(alloc: Global, scenario: &Scenario) -> Result<Replay, NoMemory>
+fn replay_of(alloc: Global, scenario: &Scenario) -> Result<Replay, NoMemory>
     requires { IsFirstForm scenario.now }
     ensures { IfOk result (λ it. IsReplayOf scenario.now it.log it.text.items) }
 {
     let mut world = FirstWorld::new(alloc, scenario)?;
-    run_to_end(&mut world)?;
+    run_to_end(&mut world, scenario.hosts.as_slice().len())?;
     let tree = world.tree(alloc)?;
     let text = ds_report::text(alloc, scenario, world.log(), &tree)?;
     let log = world.into_log();
     Ok(Replay { log, text })
 }
 
-/// Makes all turns of the one host.
-fn run_to_end(world: &mut FirstWorld) -> Result<(), NoMemory>
-    requires { 0 < length world.old.scenario.hosts }
+/// Makes all turns of the one host, if there is one.
+fn run_to_end(world: &mut FirstWorld, hosts: usize) -> Result<(), NoMemory>
+    requires { hosts ≡ length world.old.scenario.hosts }
     ensures scenario { world.new.scenario ≡ world.old.scenario }
     ensures end { OnOk result (length (list_of world.new.scenario 0) ≤ world.new.position) }
 {
+    if hosts == 0 {
+        return Ok(());
+    }
     loop {
         world.make_room()?;
         match world.turn(0) {

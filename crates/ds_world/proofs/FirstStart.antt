@@ -84,16 +84,7 @@ at_first s = record {
   stands = record { sector = zero_sector; block = empty_sub; there = refl; spelled = (IsSubBlock-empty, sym sub_bytes-empty); tree = refl };
 }
 
-<<<<<<< HEAD
-first_geom-is : IsGeom first_geom
-=======
-creates_first : (s : Scenario) (form : IsFirstForm s) → count_by is_create (drop 0 (list_of s 0)) ≤ 4
-creates_first s form =
-    let all : count_by is_create (drop 0 (list_of s 0)) ≡ count_by is_create (register ∷ form.calls) = ap (λ (list : List Directive). count_by is_create (drop 0 list)) (list_is s form) in
-    omega (arith, all, sum_by-cons (λ (d : Directive). cond {A = ℕ} (is_create d) 1 0) register form.calls, form.creates)
-
 pub first_geom-is : IsGeom first_geom
->>>>>>> eb0b52223974a51659714d443acef8ab616de2e7
 first_geom-is Slots = (omega arith, omega arith)
 first_geom-is Block = (omega arith, omega arith)
 first_geom-is (Clusters Fd) = (omega arith, omega arith)

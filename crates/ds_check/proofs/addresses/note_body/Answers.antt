@@ -1,7 +1,6 @@
 -- The findings of one more address are noted; behind the last nothing is found.
-use Rattle.std.proofs.Common.{◌≡◌, ◌++◌, length, min, ap, ◌∙◌, arith}
+use Rattle.std.proofs.Common.{◌≡◌, ◌++◌, ap, ◌∙◌, arith}
 use Rattle.ds_check.specs.Addresses.{address_at}
-use Rattle.ds_check.specs.Objects.{past_last, most_addresses}
 use Rattle.ds_check.specs.Rows.{row}
 use Rattle.ds_check.proofs.LastAddresses.{all_addresses}
 use Rattle.ds_check.proofs.Rows.{row_step}

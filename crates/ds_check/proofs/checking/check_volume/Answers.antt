@@ -1,5 +1,4 @@
 -- Where nothing is found in front no sector is bad.
-use Rattle.std.proofs.Common.{rules, arith}
 use Rattle.ds_check.proofs.NoBad.{no_bad}
 use Rattle.ds_check.proofs.checking.check_volume.Goals as goal
 

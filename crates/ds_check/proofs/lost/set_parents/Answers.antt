@@ -1,5 +1,5 @@
 -- The object in one more room has the parent.
-use Rattle.std.proofs.Common.{◌≡◌, ◌+◌, ◌++◌, [], ◌∷◌, List, ℕ, None, Option, take, get_or, refl, sym, ap, subst, ◌∙◌}
+use Rattle.std.proofs.Common.{◌≡◌, ◌+◌, ◌++◌, [], ◌∷◌, None, take, get_or, sym, ap, subst, ◌∙◌}
 use Rattle.std.proofs.lemmas.List.{get_or_default}
 use Rattle.std.specs.List.{filter_map}
 use Rattle.ds_check.specs.Lost.{SetsParents, set_named}
