@@ -39,7 +39,8 @@ use Rattle.ds_changes.proofs.Frames.{reads-sub}
 use Rattle.ds_changes.proofs.Guards.{guard-sub_listed}
 use Rattle.ds_changes.proofs.Listed.{listed-in}
 use Rattle.ds_changes.proofs.Spelling.{sub-at}
-use Rattle.ds_changes.proofs.StandsGrown.{two-pairs, two-laid}
+use Rattle.ds_changes.proofs.StandsGrown.{two-laid}
+use Rattle.ds_changes.specs.Redos.{two_pairs}
 use Rattle.ds_gives.specs.Moving.{ReadyToLeave}
 use Rattle.ds_gives.proofs.Crossing.{crossed, moves-crossed, subs-differ}
 use Rattle.ds_gives.proofs.Emptied.{room-is_sub, room-is_entry}
@@ -54,7 +55,7 @@ sub-read g image p reads n b there = ((reads.subs.each n (sub-at g image p reads
 -- the sectors of the redo: the sub-block that loses the entry stands before the other one, or behind it
 abbrev pub crossed-pairs : Geom → Bool → ℕ → ℕ → Sector → Sector → List Pair
 crossed-pairs g swapped n m from_sector to_sector =
-    two-pairs swapped (place_sector g (places.SubBlock n), from_sector) (place_sector g (places.SubBlock m), to_sector) []
+    two_pairs swapped (place_sector g (places.SubBlock n), from_sector) (place_sector g (places.SubBlock m), to_sector) []
 
 module _ (g : Geom) (is : IsGeom g) (image : List Sector) (t : FileTree) (stands : StandsFor g image t)
     (key to : Key) (dir to_dir : Body) (e fresh : Entry) (n : ℕ) (block : SubBlock) (ready : ReadyToLeave stands.parts key to dir to_dir e fresh n block)

@@ -47,7 +47,8 @@ use Rattle.ds_changes.proofs.Guards.{guard-body, guard-map, guard-sub_listed, gu
 use Rattle.ds_changes.proofs.Listed.{listed-in}
 use Rattle.ds_changes.proofs.Names.{by_name-length}
 use Rattle.ds_changes.proofs.Spelling.{alone-is_sub, body-at, map-at, set-bits, sub-at}
-use Rattle.ds_changes.proofs.StandsGrown.{two-pairs, two-laid}
+use Rattle.ds_changes.proofs.StandsGrown.{two-laid}
+use Rattle.ds_changes.specs.Redos.{two_pairs}
 use Rattle.ds_gives.specs.Moving.{ReadyToLeave, ReadyToAdd}
 use Rattle.ds_gives.proofs.Crossing.{crossed_grown}
 use Rattle.ds_gives.proofs.CrossingGrown.{at-to, listed-by_none, m-item, moves-grown, subs-differ, subs-grown}
@@ -62,7 +63,7 @@ use Rattle.ds_gives.proofs.StandsRenamed.{renamed-is_entry}
 abbrev pub crossed_grown-pairs : Geom → Bool → ℕ → ℕ → ℕ → ℕ → Sector → Sector → Sector → Sector → List Pair
 crossed_grown-pairs g swapped c r n m map_sector to_body_sector from_sector to_sector =
     (place_sector g (places.Bitmap Sb c), map_sector) ∷ (place_sector g (places.Body r), to_body_sector)
-    ∷ two-pairs swapped (place_sector g (places.SubBlock n), from_sector) (place_sector g (places.SubBlock m), to_sector) []
+    ∷ two_pairs swapped (place_sector g (places.SubBlock n), from_sector) (place_sector g (places.SubBlock m), to_sector) []
 
 module _ (g : Geom) (is : IsGeom g) (image : List Sector) (t : FileTree) (stands : StandsFor g image t)
     (key to : Key) (dir to_dir : Body) (e fresh : Entry) (n : ℕ) (block : SubBlock) (ready : ReadyToLeave stands.parts key to dir to_dir e fresh n block)
@@ -185,11 +186,11 @@ module _ (g : Geom) (is : IsGeom g) (image : List Sector) (t : FileTree) (stands
         let body = (body-at g image p stands.reads r to_dir ready.lacks.there).0 in
         let sub = (sub-at g image p stands.reads n ready.empties.before ready.empties.there).0 in
         let by_dir : Is a = record { object = key.object; guards = guard-sub_listed g look s reads key.object ready.empties.place n sub sound.sub_owners at; held = held_dir } in
-        let rest = elim swapped as (λ w. All Is (targets_of (two-pairs w (a, from_sector) (o, to_sector) []))) [
+        let rest = elim swapped as (λ w. All Is (targets_of (two_pairs w (a, from_sector) (o, to_sector) []))) [
           | false ↦ All-cons Is a (o ∷ []) by_dir (All-cons Is o [] by_other (All-nil Is))
           | true ↦ All-cons Is o (a ∷ []) by_other (All-cons Is a [] by_dir (All-nil Is))
         ] in
-        let tail = targets_of (two-pairs swapped (a, from_sector) (o, to_sector) []) in
+        let tail = targets_of (two_pairs swapped (a, from_sector) (o, to_sector) []) in
         All-cons Is b (f ∷ tail) (record { object = cluster_lock Sb c; guards = guard-map g look s reads Sb c cluster; held = held_cluster })
         (All-cons Is f tail (record { object = r; guards = guard-body g look s reads r body; held = held_to }) rest)
 
