@@ -23,7 +23,6 @@ use Rattle.ds_image.specs.Parts.{Parts, part_at, maps_of}
 use Rattle.ds_image.specs.Readings.{Reads}
 use Rattle.ds_image.proofs.Sizes.{part_within}
 use Rattle.ds_changes.specs.Beginning.{SetsBit, Begins}
-use Rattle.ds_changes.specs.Ending.{EmptiesRoom}
 use Rattle.ds_changes.specs.Entering.{FillsRoom}
 
 bytes-within : (image : List Sector) (at : ℕ) (bytes : List ℕ) → HasBytes (slice_get image) at bytes → at < length image
@@ -76,9 +75,6 @@ module _ (g : Geom) (image : List Sector) (p : Parts) (reads : Reads g (slice_ge
   -- a sub-block of which a room was filled or emptied is one
   pub filled-is_sub : (dir : Body) (n : ℕ) (e : Entry) (after : SubBlock) → IsEntry e → FillsRoom p dir n e after → IsSubBlock after
   filled-is_sub dir n e after entry fills = set-is_sub n fills.room (Some e) fills.before after entry fills.there fills.filled
-
-  pub emptied-is_sub : (dir : Body) (n : ℕ) (e : Entry) (after : SubBlock) → EmptiesRoom p dir n e after → IsSubBlock after
-  emptied-is_sub dir n e after empties = set-is_sub n empties.room None empties.before after tt empties.there empties.emptied
 
 -- so is one with an entry alone
 pub alone-is_sub : (e : Entry) (after : SubBlock) → IsEntry e → after.rooms ≡ Some e ∷ None ∷ None ∷ None ∷ [] → IsSubBlock after

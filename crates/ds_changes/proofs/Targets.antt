@@ -11,7 +11,7 @@ use Rattle.ds_base.specs.declared.sectors.Sector.{Sector}
 use Rattle.ds_layout.specs.Places.{place_sector}
 use Rattle.ds_layout.specs.declared.places.Place.TheVariants as places
 use Rattle.ds_image.specs.Asking.{AreTargets, targets_of}
-use Rattle.ds_changes.specs.Redos.{renamed_pairs, filled_pairs, grown_pairs, AreInOrder}
+use Rattle.ds_changes.specs.Redos.{filled_pairs, grown_pairs, AreInOrder}
 use Rattle.ds_image.specs.Metadata.{IsMetadata}
 
 -- Numbers that rise
@@ -52,16 +52,6 @@ module _ (g : Geom) where
 
   body-before_sub : (o n : ℕ) → o < items_of g Fd → place_sector g (places.Body o) < place_sector g (places.SubBlock n)
   body-before_sub o n within = omega (arith, within)
-
-  pub renamed-targets : (n : ℕ) → n < items_of g Sb → (block_sector : Sector) → AreTargets g (targets_of (renamed_pairs g n block_sector))
-  renamed-targets n within block_sector =
-      let s : ℕ = place_sector g (places.SubBlock n) in
-      record {
-        some = omega arith;
-        most = omega arith;
-        rising = rising-one s;
-        metadata = All-cons (IsMetadata g) s [] (sub-metadata n within) (All-nil (IsMetadata g));
-      }
 
   module _ (c o n : ℕ) (cluster : c < clusters_of g Fd) (object : o < items_of g Fd) (sub : n < items_of g Sb) where
     pub filled-targets : (map_sector new_sector block_sector : Sector) → AreTargets g (targets_of (filled_pairs g c o n map_sector new_sector block_sector))

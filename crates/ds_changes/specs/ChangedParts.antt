@@ -4,7 +4,6 @@ use Rattle.ds_bitmap.specs.Bits.{Bitmap}
 use Rattle.ds_dir.specs.declared.sub_block.SubBlock.{SubBlock}
 use Rattle.ds_fd.specs.declared.body.Body.{Body}
 use Rattle.ds_image.specs.Parts.{Parts}
-use Rattle.ds_changes.specs.Changed.{NewMap, put_maps}
 
 -- the parts with a bitmap of descriptors, a body and a sub-block in the place of others
 abbrev pub filled : Parts → ℕ → ℕ → ℕ → Bitmap → Body → SubBlock → Parts
@@ -21,16 +20,4 @@ grown_with p c c' d o n map map' grown new block = record p {
   fd_maps = slice_set p.fd_maps c (Some map);
   sb_maps = slice_set p.sb_maps c' (Some map');
   subs = slice_set p.subs n (Some block);
-}
-
--- the parts with all these in the places of others
-abbrev pub emptied : Parts → ℕ → ℕ → ℕ → Bitmap → List NewMap → List NewMap → List NewMap → Body → SubBlock → Parts
-emptied p c o n map sub_writes ptr_writes block_writes gone block = record {
-  bodies = slice_set p.bodies o (Some gone);
-  fd_maps = slice_set p.fd_maps c (Some map);
-  sb_maps = put_maps p.sb_maps sub_writes;
-  pb_maps = put_maps p.pb_maps ptr_writes;
-  fb_maps = put_maps p.fb_maps block_writes;
-  subs = slice_set p.subs n (Some block);
-  ptrs = p.ptrs;
 }

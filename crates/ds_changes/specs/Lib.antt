@@ -2,10 +2,8 @@ pub mod Beginning
 pub mod Bodies
 pub mod Changed
 pub mod ChangedParts
-pub mod Ending
 pub mod Entering
 pub mod Guarded
 pub mod Making
 pub mod Puts
 pub mod Redos
-pub mod Renaming

@@ -1,12 +1,11 @@
 -- The pairs of the redos that planners make.
-use Rattle.std.specs.Prelude.{ℕ, ◌<◌, Bool, true, false, List, [], ◌∷◌, ◌++◌}
+use Rattle.std.specs.Prelude.{ℕ, ◌<◌, Bool, true, false, List, [], ◌∷◌}
 use Rattle.ds_base.specs.declared.geometry.Geom.{Geom}
-use Rattle.ds_base.specs.declared.geometry.Kind.TheVariants.{Fd, Sb, Pb, Fb}
+use Rattle.ds_base.specs.declared.geometry.Kind.TheVariants.{Fd, Sb}
 use Rattle.ds_base.specs.declared.sectors.Sector.{Sector}
 use Rattle.ds_layout.specs.Places.{place_sector}
 use Rattle.ds_layout.specs.declared.places.Place.TheVariants as places
 use Rattle.ds_image.specs.Pending.{Pair}
-use Rattle.ds_changes.specs.Changed.{NewMap, map_pairs}
 
 -- an object made for a free room of a directory: the sectors in their order
 abbrev pub filled_pairs : Geom → ℕ → ℕ → ℕ → Sector → Sector → Sector → List Pair
@@ -29,14 +28,3 @@ grown_pairs g swapped c c' d o n map_sector sub_map_sector dir_sector new_sector
 abbrev pub AreInOrder : Bool → ℕ → ℕ → Type 0
 AreInOrder false d o = d < o
 AreInOrder true d o = o < d
-
--- an object that goes: the bitmaps of what it gave up stand between that of its descriptor and its body
-abbrev pub emptied_pairs : Geom → ℕ → ℕ → ℕ → Sector → List NewMap → List NewMap → List NewMap → Sector → Sector → List Pair
-emptied_pairs g c o n map_sector sub_writes ptr_writes block_writes gone_sector block_sector =
-    (place_sector g (places.Bitmap Fd c), map_sector)
-    ∷ (map_pairs g Sb sub_writes ++ (map_pairs g Pb ptr_writes ++ (map_pairs g Fb block_writes
-    ++ (place_sector g (places.Body o), gone_sector) ∷ (place_sector g (places.SubBlock n), block_sector) ∷ [])))
-
--- an entry that has another name in its room
-abbrev pub renamed_pairs : Geom → ℕ → Sector → List Pair
-renamed_pairs g n block_sector = (place_sector g (places.SubBlock n), block_sector) ∷ []
