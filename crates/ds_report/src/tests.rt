@@ -339,10 +339,21 @@ fn a_report_has_a_part_for_each_event(rt: HostRuntime) -> Result<(), Fail> {
     let report = whole(alloc, &scenario, &events, &replies, &tree)?;
     assert_eq!(rt; report.as_slice(), want.into_bytes().as_slice());
     assert_eq!(rt; listing(alloc, &tree)?.as_slice(), LISTING);
+    Ok(())
+}
+
+#[test]
+fn a_report_without_events_has_the_count_of_changes_and_the_tree(
+    rt: HostRuntime,
+) -> Result<(), Fail> {
+    let alloc = rt.alloc();
+    let tree = tree(&rt, alloc)?;
     let mut want = Growing::new(alloc);
     want.bytes(b"changes 0\n")?;
     want.bytes(LISTING)?;
-    let empty = text(alloc, &scenario, &Log::new(alloc), &tree)?;
-    assert_eq!(rt; empty.as_slice(), want.into_bytes().as_slice());
+    let scenario = scenario(&rt, alloc)?;
+    assert!(rt; scenario.geom.check().is_ok());
+    let report = text(alloc, &scenario, &Log::new(alloc), &tree)?;
+    assert_eq!(rt; report.as_slice(), want.into_bytes().as_slice());
     Ok(())
 }
