@@ -1,11 +1,10 @@
 -- Parts of which a directory has an entry more, and the object that it names is new: what they list, and that they agree.
-use Rattle.std.proofs.Common.{◌≡◌, ◌≢◌, ℕ, ◌+◌, ◌*◌, ◌<◌, true, false, inl, inr, List, [], ◌∷◌, length, map, get_or, slice_get, slice_set, Option, Some, None, IsSome, is_some, refl, sym, ap, subst, ◌∙◌, length-set, get_or-set_same, get_or-set_other, arith}
+use Rattle.std.proofs.Common.{◌≡◌, ◌≢◌, ℕ, ◌<◌, true, false, inl, inr, List, [], length, map, get_or, slice_get, slice_set, Option, Some, None, IsSome, is_some, refl, sym, ap, subst, ◌∙◌, length-set, get_or-set_same, get_or-set_other, arith}
 use Rattle.std.specs.Prelude.{All}
 use Rattle.std.proofs.lemmas.Bool.{cases_eq}
 use Rattle.std.proofs.lemmas.List.{get_or-map, map-set, set-get_or}
 use Rattle.std.proofs.lemmas.List.Elements.{All-nil}
 use Rattle.ds_base.specs.declared.geometry.Kind.{Kind}
-use Rattle.ds_base.specs.declared.names.NodeKind.{NodeKind}
 use Rattle.ds_base.specs.declared.names.NodeKind.TheVariants as kinds
 use Rattle.ds_dir.specs.declared.sub_block.Entry.{Entry}
 use Rattle.ds_fd.specs.declared.body.Body.{Body}
@@ -57,7 +56,7 @@ module _ (p q : Parts) (d o : ℕ) (dir dir' new : Body) (e : Entry) (en : Enter
   pub count-same : length q.bodies ≡ length p.bodies
   count-same = ap length en.bodies ∙ length-set (slice_set p.bodies d (Some dir')) o (Some new) ∙ length-set p.bodies d (Some dir')
 
-  at-new : part_at q.bodies o ≡ Some new
+  pub at-new : part_at q.bodies o ≡ Some new
   at-new =
       ap (λ bs. part_at bs o) en.bodies
       ∙ get_or-set_same (slice_set p.bodies d (Some dir')) o (Some new) None (omega (arith, o-within, length-set p.bodies d (Some dir')))
@@ -65,7 +64,7 @@ module _ (p q : Parts) (d o : ℕ) (dir dir' new : Body) (e : Entry) (en : Enter
   at-past : (k : ℕ) → k ≢ o → part_at q.bodies k ≡ part_at (slice_set p.bodies d (Some dir')) k
   at-past k other = ap (λ bs. part_at bs k) en.bodies ∙ get_or-set_other (slice_set p.bodies d (Some dir')) o k (Some new) None other
 
-  at-dir : part_at q.bodies d ≡ Some dir'
+  pub at-dir : part_at q.bodies d ≡ Some dir'
   at-dir = at-past d (λ same. apart (sym same)) ∙ get_or-set_same p.bodies d (Some dir') None d-within
 
   pub where-is : (k : ℕ) → Where p q d o dir' new k
@@ -126,9 +125,9 @@ module _ (p q : Parts) (d o : ℕ) (dir dir' new : Body) (e : Entry) (en : Enter
       let used-new : is_used (Some new) ≡ true = ap is_some en.begins.kind in
       let used-dir : is_used (Some dir') ≡ is_used (part_at p.bodies d) = ap is_some en.dir_kind ∙ sym (ap is_some en.lacks.is_dir) ∙ ap is_used (sym en.lacks.there) in
       let dirs : map is_used (slice_set p.bodies d (Some dir')) ≡ map is_used p.bodies =
-          map-set is_used p.bodies d (Some dir')
-          ∙ ap (slice_set (map is_used p.bodies) d) (used-dir ∙ sym (get_or-map is_used p.bodies d None false d-within))
-          ∙ set-get_or (map is_used p.bodies) d false in
+      map-set is_used p.bodies d (Some dir')
+      ∙ ap (slice_set (map is_used p.bodies) d) (used-dir ∙ sym (get_or-map is_used p.bodies d None false d-within))
+      ∙ set-get_or (map is_used p.bodies) d false in
       ap (map is_used) en.bodies ∙ map-set is_used (slice_set p.bodies d (Some dir')) o (Some new)
       ∙ ap (λ l. slice_set l o (is_used (Some new))) dirs
       ∙ ap (slice_set (map is_used p.bodies) o) used-new

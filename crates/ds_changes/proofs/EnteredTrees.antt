@@ -1,5 +1,5 @@
 -- The tree of parts of which a directory has an entry more, and the object that it names is new.
-use Rattle.std.proofs.Common.{◌≡◌, ◌≢◌, ℕ, ◌+◌, ◌*◌, ◌<◌, List, length, map, get_or, slice_set, Option, Some, None, refl, sym, ap, subst, ◌∙◌, length-set, get_or-set_same, get_or-set_other, arith}
+use Rattle.std.proofs.Common.{◌≡◌, ℕ, ◌*◌, length, map, Some, None, sym, ap, ◌∙◌, length-set, get_or-set_same, get_or-set_other, arith}
 use Rattle.std.specs.FinMap as maps
 use Rattle.std.proofs.lemmas.List.{ext_get_or, get_or-map, length-map}
 use Rattle.ds_base.specs.declared.geometry.Geom.{Geom}
@@ -16,8 +16,8 @@ use Rattle.ds_image.specs.Objects.{node_by, object_of, tree_of, entries_of, used
 use Rattle.ds_image.specs.Parts.{Parts, part_at}
 use Rattle.ds_image.proofs.TreeParts.{object-is, objects-are}
 use Rattle.ds_changes.specs.Entering.{subs_in}
-use Rattle.ds_changes.proofs.Entered.{EntersBodies, EntersParts, Where, is_new, is_dir, is_other, where-is, apart, d-within, o-within, count-same}
-use Rattle.ds_changes.proofs.Names.{by_name, by_name-put}
+use Rattle.ds_changes.proofs.Entered.{EntersBodies, EntersParts, is_new, is_dir, is_other, where-is, apart, d-within, o-within, count-same}
+use Rattle.ds_changes.proofs.Names.{by_name-put}
 use Rattle.ds_changes.proofs.NewBodies.{empty-node, object-same}
 
 -- the object of a directory with this body

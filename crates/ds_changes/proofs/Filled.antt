@@ -1,8 +1,7 @@
 -- A free room of a directory is filled with the entry of a new object.
-use Rattle.std.proofs.Common.{◌≡◌, ◌≢◌, ℕ, ◌+◌, ◌*◌, ◌<◌, Bool, true, false, List, length, get_or, slice_get, slice_set, Option, Some, None, IsSome, refl, sym, ap, subst, ◌∙◌, get_or-set_same, get_or-set_other, arith}
+use Rattle.std.proofs.Common.{◌≡◌, ◌≢◌, ℕ, ◌+◌, ◌*◌, ◌<◌, true, false, length, get_or, slice_get, slice_set, Some, None, IsSome, refl, sym, ap, subst, ◌∙◌, get_or-set_same, get_or-set_other}
 use Rattle.std.specs.Prelude.{All}
 use Rattle.std.proofs.lemmas.List.{set-get_or}
-use Rattle.std.proofs.lemmas.Option.{slice_get_within}
 use Rattle.ds_base.specs.Geometry.{per_cluster}
 use Rattle.ds_base.specs.declared.geometry.Geom.{Geom}
 use Rattle.ds_base.specs.declared.geometry.Kind.{Kind}
@@ -12,7 +11,7 @@ use Rattle.ds_dir.specs.declared.sub_block.Entry.{Entry}
 use Rattle.ds_dir.specs.declared.sub_block.SubBlock.{SubBlock}
 use Rattle.ds_fd.specs.declared.body.Body.{Body}
 use Rattle.ds_image.specs.Looks.{Look}
-use Rattle.ds_image.specs.Objects.{rooms_in, subs_of, used_rooms}
+use Rattle.ds_image.specs.Objects.{rooms_in, subs_of}
 use Rattle.ds_image.specs.Owns.{Owns}
 use Rattle.ds_image.specs.Parts.{Parts, part_at, AllSpelled, maps_of, bits_in}
 use Rattle.ds_image.specs.Readings.{Reads}

@@ -1,5 +1,5 @@
 -- What a volume spells after one sector of a place was written: that part is another one, and all others stay.
-use Rattle.std.proofs.Common.{◌≡◌, ◌≢◌, ℕ, ◌<◌, ◌==◌, Bool, true, false, if◌then◌else◌, List, length, inl, inr, Option, Some, None, slice_get, slice_set, refl, sym, ap, subst, ◌∙◌, length-set, ne_eqb, eq-eqb, get_or-set_same, get_or-set_other, arith}
+use Rattle.std.proofs.Common.{◌≡◌, ◌≢◌, ℕ, ◌<◌, if◌then◌else◌, List, length, inl, inr, Option, Some, None, slice_get, slice_set, refl, sym, ap, subst, ◌∙◌, length-set, ne_eqb, eq-eqb, get_or-set_same, get_or-set_other, arith}
 use Rattle.std.proofs.lemmas.Bool.{cases_eq, cases_lt}
 use Rattle.std.proofs.lemmas.Option.{slice_get_past}
 use Rattle.ds_base.specs.Decoding.{IsDecoded}
@@ -7,7 +7,7 @@ use Rattle.ds_base.specs.declared.geometry.Geom.{Geom}
 use Rattle.ds_base.specs.declared.geometry.Kind.{Kind}
 use Rattle.ds_base.specs.declared.geometry.Kind.TheVariants.{Fd, Sb, Pb, Fb}
 use Rattle.ds_base.specs.declared.sectors.Sector.{Sector}
-use Rattle.ds_base.specs.Geometry.{IsGeom, clusters_of, per_cluster, items_of}
+use Rattle.ds_base.specs.Geometry.{IsGeom, clusters_of, items_of}
 use Rattle.ds_bitmap.proofs.Bounds.{most_per_cluster}
 use Rattle.ds_bitmap.proofs.Packed.{bits_same}
 use Rattle.ds_bitmap.specs.Bits.{Bitmap, IsBits, bits_bytes}
@@ -69,9 +69,9 @@ reading-put n Spells Then xs at r within to from new read = record {
   len = length-set xs at r ∙ read.len;
   each = λ i l. elim (cases_eq i at) [
     | inl here ↦ subst (λ k. IsDecoded (part_at (slice_set xs at r) k) (Then k)) (sym here)
-      (subst (λ x. IsDecoded x (Then at)) (sym (get_or-set_same xs at r None (omega (arith, read.len)))) new)
+        (subst (λ x. IsDecoded x (Then at)) (sym (get_or-set_same xs at r None (omega (arith, read.len)))) new)
     | inr apart ↦ subst (λ x. IsDecoded x (Then i)) (sym (get_or-set_other xs at i r None apart))
-      (decoded-as (part_at xs i) (Spells i) (Then i) (to i l apart) (from i l apart) (read.each i l))
+        (decoded-as (part_at xs i) (Spells i) (Then i) (to i l apart) (from i l apart) (read.each i l))
   ];
 }
 
@@ -259,8 +259,8 @@ reads-map g image p kind c b s is l within bits spelled reads =
     let other : (i : ℕ) → i ≢ c → places.Bitmap kind i ≢ at = λ i apart e. apart (let same : i ≡ c = cc in same) in
     let most = most_per_cluster g kind is in
     let one : (w : Bitmap) → SpellsBits g look' kind c w → w ≡ b = λ w d.
-        bits_same w b (omega (arith, d.0.same_cluster, few-clusters g kind c is l)) (omega (arith, bits.same_cluster, few-clusters g kind c is l)) (omega (arith, d.0.count)) (omega (arith, bits.count))
-        (same-bytes look' (place_sector g at) (bits_bytes w) (bits_bytes b) d.1 has) in
+    bits_same w b (omega (arith, d.0.same_cluster, few-clusters g kind c is l)) (omega (arith, bits.same_cluster, few-clusters g kind c is l)) (omega (arith, d.0.count)) (omega (arith, bits.count))
+    (same-bytes look' (place_sector g at) (bits_bytes w) (bits_bytes b) d.1 has) in
     record {
       bodies = subst (IsReading (items_of g Fd) (SpellsBody g look')) (sym (bodies-with_maps p kind maps)) (bodies-stay g is image at s l p.bodies (λ o e. absurd (cc)) reads.bodies);
       maps = each-with_maps (λ k xs. IsReading (clusters_of g k) (SpellsBits g look' k) xs) p kind maps

@@ -1,11 +1,9 @@
 -- No refusal holds where a new object and its entry can be made: so the call makes them, and the tree keeps the rules.
-use Rattle.std.proofs.Common.{◌≡◌, ◌≢◌, ℕ, ◌+◌, ◌*◌, ◌<◌, ◌≤◌, ◌==◌, ◌&&◌, cond, Bool, true, false, nat_le, if◌then◌else◌, List, length, slice_get, slice_set, Option, Some, None, MatchOption, refl, sym, ap, subst, ◌∙◌, inl, inr, ne_eqb, eq-eqb, arith}
+use Rattle.std.proofs.Common.{◌≡◌, ◌≢◌, ℕ, ◌<◌, ◌==◌, ◌&&◌, true, false, nat_le, if◌then◌else◌, List, Some, None, MatchOption, refl, sym, ap, subst, ◌∙◌, inl, inr, ne_eqb, eq-eqb, arith}
 use Rattle.std.specs.Prelude.{is_some}
-use Rattle.std.specs.Cmp.Lexicographic.{nat_list_cmp_total}
 use Rattle.std.specs.FinMap as maps
 use Rattle.std.proofs.lemmas.Bool.{cases_Bool}
 use Rattle.std.proofs.lemmas.Bool.Decides.{nat_tests}
-use Rattle.ds_base.specs.Geometry.{items_of}
 use Rattle.ds_base.specs.Names.{IsName}
 use Rattle.ds_base.specs.declared.geometry.Geom.{Geom}
 use Rattle.ds_base.specs.declared.geometry.Kind.TheVariants.{Fd, Sb}
@@ -15,12 +13,10 @@ use Rattle.ds_base.specs.declared.names.NodeKind.TheVariants as kinds
 use Rattle.ds_tree.proofs.StepKeeps.{step-keeps}
 use Rattle.ds_tree.specs.CallNames.{HasNames}
 use Rattle.ds_tree.specs.Counts.{free_of}
-use Rattle.ds_tree.specs.Nodes.{Entries, Node, Dir, FileTree, node_at, birth_at, node_of_key}
+use Rattle.ds_tree.specs.Nodes.{Entries, Dir, FileTree, node_at, birth_at, node_of_key}
 use Rattle.ds_tree.specs.Steps.{is_full, refusal, in_dir, refuses_new, Makes, Succeeds, Does}
 use Rattle.ds_tree.specs.Trees.{empty_node}
 use Rattle.ds_tree.specs.WellFormed.{IsTree}
-use Rattle.ds_tree.specs.declared.calls.CallOf.{CallOf}
-use Rattle.ds_tree.specs.declared.calls.TreeReply.{TreeReply}
 use Rattle.ds_tree.specs.declared.calls.TreeReply.TheVariants.{Made}
 use Rattle.ds_changes.specs.Entering.{make_call}
 

@@ -1,10 +1,10 @@
 -- A directory without a free room lists one sub-block more, which has the entry of a new object alone.
-use Rattle.std.proofs.Common.{◌≡◌, ◌≢◌, ℕ, ◌+◌, ◌*◌, ◌<◌, ◌≤◌, Bool, true, false, List, [], ◌∷◌, ◌++◌, length, take, get_or, slice_get, slice_set, Option, Some, None, IsSome, is_some, refl, sym, ap, subst, ◌∙◌, length-set, get_or-set_same, get_or-set_other, inl, inr, arith}
+use Rattle.std.proofs.Common.{◌≡◌, ◌≢◌, ℕ, ◌+◌, ◌*◌, ◌<◌, ◌≤◌, true, false, List, [], ◌∷◌, ◌++◌, length, take, get_or, slice_get, slice_set, Some, None, IsSome, is_some, refl, sym, ap, subst, ◌∙◌, get_or-set_same, get_or-set_other, inl, inr, arith}
 use Rattle.std.specs.Prelude.{All}
 use Rattle.std.proofs.lemmas.Bool.{cases_lt, false≢true}
 use Rattle.std.proofs.lemmas.List.{get_or_past, get_or_default, length-map, take_more_set}
 use Rattle.std.proofs.lemmas.List.Elements.{All-nil, All-cons, All-append}
-use Rattle.std.proofs.lemmas.Option.{slice_get_within, get_or_from_slice_get}
+use Rattle.std.proofs.lemmas.Option.{get_or_from_slice_get}
 use Rattle.ds_base.specs.Geometry.{per_cluster, items_of}
 use Rattle.ds_base.specs.declared.geometry.Geom.{Geom}
 use Rattle.ds_base.specs.declared.geometry.Kind.{Kind}
@@ -12,23 +12,23 @@ use Rattle.ds_base.specs.declared.geometry.Kind.TheVariants.{Fd, Sb, Pb, Fb}
 use Rattle.ds_bitmap.specs.Bits.{Bitmap}
 use Rattle.ds_dir.specs.declared.sub_block.Entry.{Entry}
 use Rattle.ds_dir.specs.declared.sub_block.SubBlock.{SubBlock}
-use Rattle.ds_fd.specs.Body.{IsBody, most_count}
+use Rattle.ds_fd.specs.Body.{most_count}
 use Rattle.ds_fd.specs.declared.body.Body.{Body}
 use Rattle.ds_image.specs.Looks.{Look}
-use Rattle.ds_image.specs.Objects.{rooms_in, subs_by, subs_of, used_rooms}
-use Rattle.ds_image.specs.Owns.{Owns, IsAt, list_of, bit}
+use Rattle.ds_image.specs.Objects.{rooms_in, subs_of, used_rooms}
+use Rattle.ds_image.specs.Owns.{Owns, IsAt, list_of}
 use Rattle.ds_image.specs.Parts.{Parts, part_at, AllSpelled, maps_of, bits_in}
 use Rattle.ds_image.specs.Readings.{Reads}
 use Rattle.ds_image.specs.Sound.{IsSound, sub_lists}
 use Rattle.ds_image.proofs.Listed.{bits_length}
 use Rattle.ds_image.proofs.Owning.{owns-alike, owns-grown}
-use Rattle.ds_image.proofs.Sizes.{body_is, part_within}
+use Rattle.ds_image.proofs.Sizes.{body_is}
 use Rattle.ds_image.proofs.SoundParts.{each_kind, list-is, objects-of}
 use Rattle.ds_changes.specs.Beginning.{SetsBit, Begins}
 use Rattle.ds_changes.specs.Entering.{subs_in, LacksName, AddsRooms}
 use Rattle.ds_changes.specs.Puts.{IsPut}
 use Rattle.ds_changes.proofs.Bits.{bits-set, bits-get, all-put, bit-within}
-use Rattle.ds_changes.proofs.Entered.{EntersBodies, EntersParts, Where, is_new, is_dir, is_other, where-is, apart, d-within, new-subs, old-subs, dir-subs, dir-subs_after}
+use Rattle.ds_changes.proofs.Entered.{EntersBodies, EntersParts, is_new, is_dir, is_other, where-is, apart, d-within, new-subs, old-subs, dir-subs, dir-subs_after}
 use Rattle.ds_changes.proofs.Listed.{listed-by, listed-in, listed-nowhere, part-put}
 use Rattle.ds_changes.proofs.Puts.{in_use}
 use Rattle.ds_changes.proofs.Rooms.{used_in, used-same, used-added}
@@ -95,7 +95,7 @@ module _ (g : Geom) (look : Look) (p : Parts) (reads : Reads g look p) (sound : 
   few = subst (λ k. grown.count ≤ most_count k) (adds.kind ∙ lacks.is_dir) adds.is_body.ranges.count_to
 
   -- it stands behind those that the directory listed
-  subs-grown : subs_in grown ≡ subs_in dir ++ n ∷ []
+  pub subs-grown : subs_in grown ≡ subs_in dir ++ n ∷ []
   subs-grown =
       let wide = (body_is g look p d dir reads lacks.there).widths.address_count in
       ap (λ addresses. take grown.count addresses) adds.addresses

@@ -6,6 +6,9 @@ pub mod FreeItems
 pub mod Frames
 pub mod Grown
 pub mod Granting
+pub mod GuardedFills
+pub mod GuardedGrowths
+pub mod Guards
 pub mod Listed
 pub mod Makes
 pub mod Names

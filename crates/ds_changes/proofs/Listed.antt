@@ -1,13 +1,12 @@
 -- Which sub-blocks descriptors list.
-use Rattle.std.proofs.Common.{◌≡◌, ◌≢◌, ℕ, ◌<◌, Bool, false, true, List, length, slice_get, slice_set, Option, Some, None, IsSome, is_some, refl, sym, ap, subst, ◌∙◌, get_or-set_same, get_or-set_other, inl, inr}
+use Rattle.std.proofs.Common.{◌≡◌, ℕ, ◌<◌, Bool, false, List, length, slice_get, slice_set, Option, Some, None, IsSome, is_some, refl, sym, ap, subst, ◌∙◌, get_or-set_same, get_or-set_other, inl, inr}
 use Rattle.std.proofs.lemmas.Bool.{cases_eq, false≢true}
 use Rattle.ds_base.specs.declared.names.NodeKind.TheVariants as kinds
-use Rattle.ds_dir.specs.declared.sub_block.SubBlock.{SubBlock}
 use Rattle.ds_fd.specs.declared.body.Body.{Body}
 use Rattle.ds_image.specs.Objects.{subs_by, subs_of}
 use Rattle.ds_image.specs.Owns.{Owns, IsAt, bit}
-use Rattle.ds_image.specs.Parts.{Parts, part_at, bits_in}
-use Rattle.ds_image.specs.Sound.{IsSound, sub_lists}
+use Rattle.ds_image.specs.Parts.{Parts, part_at}
+use Rattle.ds_image.specs.Sound.{sub_lists}
 use Rattle.ds_image.proofs.SoundParts.{list-is}
 use Rattle.ds_changes.specs.Entering.{subs_in}
 

@@ -1,9 +1,8 @@
 -- Parts of which a directory has an entry more, and the object that it names is new, spell the tree that the call makes.
-use Rattle.std.proofs.Common.{◌≡◌, ◌≢◌, ℕ, ◌+◌, ◌*◌, ◌<◌, ◌≤◌, cond, Bool, true, false, nat_le, List, length, map, slice_get, Option, Some, None, refl, sym, ap, subst, ◌∙◌, arith}
+use Rattle.std.proofs.Common.{◌≡◌, ◌≢◌, ℕ, ◌+◌, ◌*◌, ◌<◌, ◌≤◌, cond, true, false, List, map, slice_get, Some, None, refl, ap, subst, ◌∙◌, arith}
 use Rattle.std.specs.Prelude.{is_some}
 use Rattle.std.specs.Cmp.Lexicographic.{nat_list_cmp_total}
 use Rattle.std.specs.FinMap as maps
-use Rattle.std.proofs.lemmas.Bool.Decides.{nat_tests}
 use Rattle.std.proofs.lemmas.List.{get_or-map, length-map}
 use Rattle.std.proofs.lemmas.Option.{slice_get-get_or}
 use Rattle.ds_base.specs.Names.{IsName}
@@ -15,15 +14,15 @@ use Rattle.ds_dir.specs.declared.sub_block.Entry.{Entry}
 use Rattle.ds_fd.specs.Body.{IsBody, most_count}
 use Rattle.ds_fd.specs.declared.body.Body.{Body}
 use Rattle.ds_tree.specs.Counts.{free_of}
-use Rattle.ds_tree.specs.Nodes.{Entries, Dir, Object, FileTree, node_at, birth_at, node_of_key}
+use Rattle.ds_tree.specs.Nodes.{Entries, Dir, Object, node_of_key}
 use Rattle.ds_tree.specs.Steps.{is_full, rooms_with_one_more, Makes}
 use Rattle.ds_tree.specs.Trees.{empty_node}
 use Rattle.ds_tree.specs.WellFormed.{IsTree}
 use Rattle.ds_tree.specs.declared.calls.TreeReply.TheVariants.{Made}
 use Rattle.ds_image.specs.Objects.{entries_of, is_used, tree_of}
-use Rattle.ds_image.specs.Parts.{Parts, part_at, bits_in}
+use Rattle.ds_image.specs.Parts.{Parts, bits_in}
 use Rattle.ds_image.specs.Readings.{Reads}
-use Rattle.ds_image.specs.Sound.{IsSound, StandsFor}
+use Rattle.ds_image.specs.Sound.{IsSound}
 use Rattle.ds_image.proofs.DirNodes.{dir-rules}
 use Rattle.ds_changes.specs.Entering.{subs_in, make_call}
 use Rattle.ds_changes.specs.Making.{Leaves}

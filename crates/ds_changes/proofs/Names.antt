@@ -1,20 +1,19 @@
 -- Entries by name, with one entry more or less.
-use Rattle.std.proofs.Common.{◌≡◌, ℕ, zero, suc, ◌+◌, ◌<◌, Bool, true, false, cond, List, [], ◌∷◌, ◌++◌, length, map, slice_get, Option, Some, None, refl, sym, ap, subst, ◌∙◌, inl, inr, arith}
+use Rattle.std.proofs.Common.{◌≡◌, ℕ, ◌+◌, ◌<◌, Bool, true, false, cond, List, [], ◌∷◌, ◌++◌, length, map, Option, Some, None, refl, sym, ap, ◌∙◌, inl, inr, arith}
 use Rattle.std.specs.Prelude.{bytes_eq, is_some}
 use Rattle.std.specs.Cmp.Lexicographic.{slice_cmp, nat_list_eq_equiv, nat_list_cmp_total}
 use Rattle.std.specs.FinMap as maps
-use Rattle.std.specs.List.{IsDistinct, AllByRecursion}
+use Rattle.std.specs.List.{AllByRecursion}
 use Rattle.std.specs.List.Sorted.{IsPermutation}
 use Rattle.std.specs.Ordering.{nat_cmp, is_eq}
-use Rattle.std.proofs.lemmas.Bool.{cases_Bool, false≢true}
-use Rattle.std.proofs.lemmas.List.{map-append}
+use Rattle.std.proofs.lemmas.Bool.{cases_Bool}
 use Rattle.std.proofs.lemmas.List.Sorted.{IsPermutation-map, IsPermutation-sym}
 use Rattle.std.proofs.lemmas.Map.Keys.{IsDistinct-cons, IsDistinct-tail, IsDistinct-head, IsDistinct-IsPermutation}
 use Rattle.std.proofs.lemmas.Map.Text.{is_eq-slice_cmp}
 use Rattle.std.proofs.lemmas.Slice.Eq.{bytes_eq-Decides}
 use Rattle.ds_dir.specs.declared.sub_block.Entry.{Entry}
 use Rattle.ds_tree.specs.Nodes.{Entries}
-use Rattle.ds_image.proofs.EntryNames.{pair_of, pairs, apart-index, find-some, get-entries}
+use Rattle.ds_image.proofs.EntryNames.{pair_of, pairs, get-entries}
 use Rattle.ds_image.specs.SoundObjects.{AreNamesApart}
 use Rattle.ds_changes.proofs.Puts.{put-mapped, put-permutation}
 use Rattle.ds_changes.specs.Puts.{IsPut}
@@ -174,5 +173,5 @@ by_name-length (e ∷ es) apart =
     let names = map (λ (x : Entry). x.name) es in
     let put = maps.len-insert nat_list_cmp_total (by_name es) e.name e.key.object in
     let new : maps.contains_key (by_name es) e.name ≡ false =
-        ap is_some (get-entries es e.name ∙ none-from_apart e.name es (IsDistinct-head bytes_eq e.name names apart)) in
+    ap is_some (get-entries es e.name ∙ none-from_apart e.name es (IsDistinct-head bytes_eq e.name names apart)) in
     omega (arith, put ∙ ap (λ b. cond b (maps.len (by_name es)) (maps.len (by_name es) + 1)) new, by_name-length es (IsDistinct-tail bytes_eq e.name names apart))

@@ -1,10 +1,9 @@
 -- A body that counts nothing lists nothing, and a directory lists no pointer blocks.
-use Rattle.std.proofs.Common.{◌≡◌, ℕ, zero, suc, ◌*◌, nat_le, if◌then◌else◌, List, [], take, drop, Option, Some, None, refl, ap}
+use Rattle.std.proofs.Common.{◌≡◌, ℕ, zero, suc, ◌*◌, nat_le, if◌then◌else◌, [], take, drop, Option, Some, None, refl, ap}
 use Rattle.std.specs.List.{flat_map}
 use Rattle.ds_base.specs.declared.names.NodeKind.{NodeKind}
 use Rattle.ds_base.specs.declared.names.NodeKind.TheVariants as kinds
 use Rattle.ds_fd.specs.declared.body.Body.{Body}
-use Rattle.ds_tree.specs.Counts.{pointer_blocks}
 use Rattle.ds_tree.specs.Nodes.{Dir, File}
 use Rattle.ds_tree.specs.Trees.{empty_node}
 use Rattle.ds_image.specs.Objects.{subs_by, ptrs_by, blocks_by, tail_by, node_by, subs_of, blocks_of, tail_of, addresses_in, used_rooms, object_of}

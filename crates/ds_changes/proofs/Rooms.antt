@@ -1,6 +1,5 @@
 -- The used rooms of the sub-blocks that a directory lists, where one sub-block is another one or is added.
-use Rattle.std.proofs.Common.{◌≡◌, ◌≢◌, ℕ, zero, suc, ◌+◌, ◌<◌, inl, inr, List, [], ◌∷◌, ◌++◌, length, slice_get, Option, Some, refl, sym, ap, subst, ◌∙◌, arith}
-use Rattle.std.specs.List.{filter_map, flat_map}
+use Rattle.std.proofs.Common.{◌≡◌, ◌≢◌, ℕ, zero, suc, List, [], ◌∷◌, ◌++◌, slice_get, Some, refl, sym, ap, subst, ◌∙◌, arith}
 use Rattle.std.proofs.lemmas.List.{append-nil}
 use Rattle.std.proofs.lemmas.List.Concat.{flat_map-append}
 use Rattle.std.proofs.lemmas.List.Elements.{filter_map-append}
@@ -55,5 +54,5 @@ pub used-added : (p q : Parts) (subs : List ℕ) (n : ℕ) (e : Entry) → ((i m
 used-added p q subs n e same single =
     let one : used_rooms q (n ∷ []) ≡ e ∷ [] = used-cons q n [] ∙ append-nil (used_in q n) ∙ single in
     let all : used_rooms q (subs ++ n ∷ []) ≡ used_rooms p subs ++ e ∷ [] =
-        used-append q subs (n ∷ []) ∙ ap (λ l. l ++ used_rooms q (n ∷ [])) (used-same p q subs same) ∙ ap (λ l. used_rooms p subs ++ l) one in
+    used-append q subs (n ∷ []) ∙ ap (λ l. l ++ used_rooms q (n ∷ [])) (used-same p q subs same) ∙ ap (λ l. used_rooms p subs ++ l) one in
     subst (IsPut e (used_rooms p subs)) (sym all) (put-last e (used_rooms p subs))

@@ -1,5 +1,5 @@
 -- What changed parts spell, and where the sectors of an image are.
-use Rattle.std.proofs.Common.{◌≡◌, ℕ, ◌<◌, ◌≤◌, Bool, List, [], ◌∷◌, length, slice_get, slice_set, Option, Some, None, IsSome, refl, sym, ap, subst, ◌∙◌, length-set, get_or-set_same, get_or-set_other, get_or, inl, inr, arith}
+use Rattle.std.proofs.Common.{◌≡◌, ℕ, ◌<◌, ◌≤◌, Bool, List, [], ◌∷◌, length, slice_get, slice_set, Option, Some, None, sym, ap, subst, ◌∙◌, length-set, get_or-set_same, get_or-set_other, get_or, inl, inr, arith}
 use Rattle.std.specs.Prelude.{All}
 use Rattle.std.proofs.lemmas.Bool.{cases_eq}
 use Rattle.std.proofs.lemmas.List.Elements.{All-nil, All-cons}
@@ -23,7 +23,7 @@ use Rattle.ds_image.specs.Parts.{Parts, part_at, maps_of}
 use Rattle.ds_image.specs.Readings.{Reads}
 use Rattle.ds_image.proofs.Sizes.{part_within}
 use Rattle.ds_changes.specs.Beginning.{SetsBit, Begins}
-use Rattle.ds_changes.specs.Entering.{FillsRoom, AddsRooms}
+use Rattle.ds_changes.specs.Entering.{FillsRoom}
 
 bytes-within : (image : List Sector) (at : ℕ) (bytes : List ℕ) → HasBytes (slice_get image) at bytes → at < length image
 bytes-within image at bytes has = slice_get_within image at has.0 has.1

@@ -1,6 +1,5 @@
 -- An image with an object made for a free room of a directory stands for the tree that the call makes.
-use Rattle.std.proofs.Common.{◌≡◌, ℕ, ◌+◌, ◌*◌, ◌<◌, Bool, true, false, cond, nat_le, List, [], ◌∷◌, length, slice_get, slice_set, Some, None, refl, sym, ap, subst, ◌∙◌, length-set, arith}
-use Rattle.std.specs.FinMap as maps
+use Rattle.std.proofs.Common.{◌≡◌, ℕ, ◌+◌, ◌*◌, true, false, cond, List, [], ◌∷◌, length, slice_get, slice_set, Some, sym, ap, subst, ◌∙◌, length-set, arith}
 use Rattle.std.proofs.lemmas.Bool.Decides.{nat_tests}
 use Rattle.std.proofs.lemmas.Bool.{false≢true}
 use Rattle.ds_base.specs.Geometry.{IsGeom}
@@ -21,7 +20,7 @@ use Rattle.ds_tree.specs.Steps.{is_full}
 use Rattle.ds_tree.specs.WellFormed.{IsTree}
 use Rattle.ds_tree.specs.declared.calls.TreeReply.TheVariants.{Made}
 use Rattle.ds_image.specs.Logical.{laid_over}
-use Rattle.ds_image.specs.Objects.{entries_of, tree_of}
+use Rattle.ds_image.specs.Objects.{entries_of}
 use Rattle.ds_image.specs.Parts.{Parts}
 use Rattle.ds_image.specs.Pending.{Pair}
 use Rattle.ds_image.specs.Readings.{Reads}
@@ -74,13 +73,13 @@ module _ (g : Geom) (is : IsGeom g) (image : List Sector) (t : FileTree) (stands
       reads-sub g second (record p { fd_maps = slice_set p.fd_maps c (Some map); bodies = slice_set p.bodies o (Some new) }) n block block_sector is at-sub.0 (omega (arith, at-sub.1, length-second))
       (filled-is_sub g image p stands.reads dir n e block (begun-is_entry p o e new make.begins make.named) fills) spells_block two
 
-  enters : EntersParts p (filled p c o n map new block) key.object o dir dir new e
+  pub enters : EntersParts p (filled p c o n map new block) key.object o dir dir new e
   enters = enters-filled g (slice_get image) p stands.reads stands.sound key.object o n c make.item dir new e map block make.is_item make.marks make.begins make.lacks fills
 
   not-full : is_full (entries_of p (subs_in dir)) (4 * dir.count) ≡ false
   not-full =
       let room = have-room g image after p (filled p c o n map new block) stands.reads filled-reads stands.sound key o dir dir new e enters
-          (body_is g (slice_get image) p key.object dir stands.reads make.lacks.there) in
+      (body_is g (slice_get image) p key.object dir stands.reads make.lacks.there) in
       grind (arith, nat_tests)
 
   -- and it stands for what the call makes of the tree

@@ -1,8 +1,7 @@
 -- An image with an object made for a directory that lists one sub-block more stands for the tree that the call makes.
-use Rattle.std.proofs.Common.{◌≡◌, ◌≢◌, ℕ, ◌+◌, ◌*◌, ◌<◌, Bool, true, false, cond, nat_le, List, [], ◌∷◌, length, slice_get, slice_set, Some, None, refl, sym, ap, subst, ◌∙◌, length-set, arith}
+use Rattle.std.proofs.Common.{◌≡◌, ◌≢◌, ℕ, ◌+◌, ◌*◌, ◌<◌, Bool, true, false, cond, List, [], ◌∷◌, length, slice_get, slice_set, Some, refl, sym, ap, subst, ◌∙◌, length-set, arith}
 use Rattle.std.specs.FinMap as maps
 use Rattle.std.proofs.lemmas.Bool.Decides.{nat_tests}
-use Rattle.std.proofs.lemmas.Bool.{false≢true}
 use Rattle.std.proofs.lemmas.List.{set_comm}
 use Rattle.ds_base.specs.Geometry.{IsGeom, items_of}
 use Rattle.ds_base.specs.declared.geometry.Geom.{Geom}
@@ -20,7 +19,7 @@ use Rattle.ds_layout.specs.Places.{place_sector}
 use Rattle.ds_layout.specs.declared.places.Place.TheVariants as places
 use Rattle.ds_tree.specs.Counts.{free_of}
 use Rattle.ds_tree.specs.Nodes.{FileTree}
-use Rattle.ds_tree.specs.Steps.{is_full, rooms_with_one_more}
+use Rattle.ds_tree.specs.Steps.{is_full}
 use Rattle.ds_tree.specs.WellFormed.{IsTree}
 use Rattle.ds_tree.specs.declared.calls.TreeReply.TheVariants.{Made}
 use Rattle.ds_image.specs.Logical.{laid_over}
@@ -30,13 +29,11 @@ use Rattle.ds_image.specs.Pending.{Pair}
 use Rattle.ds_image.specs.Readings.{Reads}
 use Rattle.ds_image.specs.Sound.{StandsFor}
 use Rattle.ds_image.specs.SoundObjects.{AreNamesApart}
-use Rattle.ds_image.proofs.Sizes.{body_is}
 use Rattle.ds_image.proofs.SoundParts.{objects-of}
-use Rattle.ds_changes.specs.Beginning.{SetsBit}
 use Rattle.ds_changes.specs.Entering.{subs_in, make_call}
 use Rattle.ds_changes.specs.Making.{ReadyToMake, ReadyToGrow, Leaves}
 use Rattle.ds_changes.proofs.Bits.{bits-at}
-use Rattle.ds_changes.proofs.Entered.{EntersBodies, EntersParts, apart}
+use Rattle.ds_changes.proofs.Entered.{EntersParts, apart}
 use Rattle.ds_changes.proofs.FreeItems.{free-some}
 use Rattle.ds_changes.proofs.Frames.{reads-body, reads-map, reads-sub}
 use Rattle.ds_changes.proofs.Grown.{grown_with, enters-grown, n-item}
@@ -101,7 +98,7 @@ module _ (g : Geom) (is : IsGeom g) (image : List Sector) (t : FileTree) (stands
   length-fourth : length fourth ≡ length image
   length-fourth = length-set third (place_sector g (places.Body o)) new_sector ∙ length-third
 
-  enters : EntersParts p parts-after key.object o dir grown new e
+  pub enters : EntersParts p parts-after key.object o dir grown new e
   enters = enters-grown g (slice_get image) p stands.reads stands.sound key.object o n c make.item c' grow.item dir grown new e map sub_map block
       make.is_item make.marks grow.is_item grow.marks make.begins make.lacks grow.adds
 
@@ -124,7 +121,7 @@ module _ (g : Geom) (is : IsGeom g) (image : List Sector) (t : FileTree) (stands
       let p4 : Parts = record p2 { bodies = slice_set (slice_set p.bodies key.object (Some grown)) o (Some new) } in
       let one = reads-map g image p Fd c map map_sector is at-map.0 at-map.1 (set-bits g image p stands.reads Fd c make.item true map make.marks) spells_map stands.reads in
       let two = reads-map g first p1 Sb c' sub_map sub_map_sector is at-sub_map.0 (omega (arith, at-sub_map.1, length-first))
-          (set-bits g image p stands.reads Sb c' grow.item true sub_map grow.marks) spells_sub_map one in
+      (set-bits g image p stands.reads Sb c' grow.item true sub_map grow.marks) spells_sub_map one in
       let three = reads-body g second p2 key.object grown dir_sector is at-dir.0 (omega (arith, at-dir.1, length-second)) grown-object grow.adds.is_body spells_dir two in
       let four = reads-body g third p3 o new new_sector is at-body.0 (omega (arith, at-body.1, length-third)) make.begins.object make.begins.is_body spells_new three in
       reads-sub g fourth p4 n block block_sector is n-within (omega (arith, in_image, length-fourth))
@@ -148,7 +145,7 @@ module _ (g : Geom) (is : IsGeom g) (image : List Sector) (t : FileTree) (stands
   full : is_full (entries_of p (subs_in dir)) (4 * dir.count) ≡ true
   full =
       let names : AreNamesApart (used_rooms p (subs_in dir)) =
-          subst (λ l. AreNamesApart (used_rooms p l)) (ap (λ body. subs_of body) make.lacks.there ∙ ap (subs_by dir) make.lacks.is_dir) (objects-of p stands.sound key.object).names in
+      subst (λ l. AreNamesApart (used_rooms p l)) (ap (λ body. subs_of body) make.lacks.there ∙ ap (subs_by dir) make.lacks.is_dir) (objects-of p stands.sound key.object).names in
       let count : maps.len (entries_of p (subs_in dir)) ≡ 4 * dir.count = by_name-length (used_rooms p (subs_in dir)) names ∙ grow.adds.full in
       grind (arith, nat_tests, count)
 

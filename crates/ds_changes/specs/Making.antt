@@ -17,7 +17,7 @@ use Rattle.ds_tree.specs.declared.calls.TreeReply.{TreeReply}
 use Rattle.ds_image.specs.Parts.{Parts}
 use Rattle.ds_image.specs.Sound.{StandsFor}
 use Rattle.ds_changes.specs.Beginning.{SetsBit, Begins}
-use Rattle.ds_changes.specs.Entering.{LacksName, FillsRoom, AddsRooms}
+use Rattle.ds_changes.specs.Entering.{LacksName, AddsRooms}
 
 -- an object can be made for an unused descriptor, of this cluster, and a name that the directory of the key lacks: its
 -- entry, its body, and the cluster's bitmap with its bit set
