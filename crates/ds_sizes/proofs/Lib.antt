@@ -1,1 +1,6 @@
+pub mod FileLists
 pub mod Paged
+pub mod Remarked
+pub mod Resized
+pub mod SamePointers
+pub mod SpelledBlocks
