@@ -57,10 +57,10 @@ module _ (p q : Parts) (o : ℕ) (b b' : Body) (size : ℕ) (added pointers : Li
   ]
 
   -- lists that other objects have stay
-  other-ptrs : (k : ℕ) → k ≢ o → (i n : ℕ) → slice_get (ptrs_of (part_at p.bodies k)) i ≡ Some n → part_at q.ptrs n ≡ part_at p.ptrs n
+  pub other-ptrs : (k : ℕ) → k ≢ o → (i n : ℕ) → slice_get (ptrs_of (part_at p.bodies k)) i ≡ Some n → part_at q.ptrs n ≡ part_at p.ptrs n
   other-ptrs k other i n at = re.others k i n other (ap (λ l. slice_get l i) (list-is ptrs_of p.bodies refl k) ∙ at)
 
-  rooms-same : (subs : List ℕ) → used_rooms q subs ≡ used_rooms p subs
+  pub rooms-same : (subs : List ℕ) → used_rooms q subs ≡ used_rooms p subs
   rooms-same subs = used-same p q subs (λ i n at. ap (λ xs. part_at xs n) re.subs)
 
   no-subs : subs_of (Some b') ≡ []

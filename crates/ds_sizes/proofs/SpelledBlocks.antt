@@ -32,7 +32,7 @@ module _ (g : Geom) (look : Look) (p : Parts) (o : ℕ) (b : Body) (reads : Read
   abbrev blocks : List ℕ
   blocks = blocks_in p b
 
-  size-is : length blocks ≡ b.count
+  pub size-is : length blocks ≡ b.count
   size-is = file_size g look p o b reads sound there file
 
   wide : (k n : ℕ) → slice_get (ptrs_in b) k ≡ Some n → length (pointed n) ≡ 128
