@@ -1,8 +1,10 @@
 pub mod FileLists
 pub mod Paged
+pub mod PutAll
 pub mod Remarked
 pub mod Resized
 pub mod ResizedTrees
 pub mod Resizes
 pub mod SamePointers
 pub mod SpelledBlocks
+pub mod Writing

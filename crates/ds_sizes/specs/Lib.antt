@@ -1,3 +1,4 @@
 pub mod Pages
 pub mod Remarks
 pub mod Resizing
+pub mod Written
