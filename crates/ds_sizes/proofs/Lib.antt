@@ -1,4 +1,5 @@
 pub mod FileLists
+pub mod MarkedClusters
 pub mod Paged
 pub mod PutAll
 pub mod Remarked
@@ -7,4 +8,5 @@ pub mod ResizedTrees
 pub mod Resizes
 pub mod SamePointers
 pub mod SpelledBlocks
+pub mod WrittenPages
 pub mod Writing

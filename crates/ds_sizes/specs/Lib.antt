@@ -1,4 +1,6 @@
+pub mod Clusters
 pub mod Pages
+pub mod Pointers
 pub mod Remarks
 pub mod Resizing
 pub mod Written
