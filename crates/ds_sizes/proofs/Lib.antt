@@ -8,5 +8,6 @@ pub mod ResizedTrees
 pub mod Resizes
 pub mod SamePointers
 pub mod SpelledBlocks
+pub mod StandsResized
 pub mod WrittenPages
 pub mod Writing

@@ -1,6 +1,7 @@
 pub mod Clusters
 pub mod Pages
 pub mod Pointers
+pub mod Ready
 pub mod Remarks
 pub mod Resizing
 pub mod Written

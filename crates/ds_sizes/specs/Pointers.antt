@@ -1,7 +1,6 @@
 -- Which pointer blocks of a file are written as its size changes.
 use Rattle.std.specs.Prelude.{◌≡◌, ℕ, ◌*◌, ◌≤◌, List, slice_get, Some}
 use Rattle.ds_fd.specs.declared.body.Body.{Body}
-use Rattle.ds_image.specs.Objects.{addresses_in}
 use Rattle.ds_ptr.specs.PtrBlock.{IsPtrBlock}
 use Rattle.ds_ptr.specs.declared.ptr_block.PtrBlock.{PtrBlock}
 use Rattle.ds_sizes.specs.Pages.{ptrs_in, IsPage}
