@@ -1,4 +1,5 @@
 pub mod FileLists
+pub mod GuardedResizes
 pub mod MarkedClusters
 pub mod Paged
 pub mod PutAll

@@ -46,7 +46,7 @@ module _ (g : Geom) (look : Look) (p : Parts) (reads : Reads g look p) (sound : 
   ]
 
   -- a clear item is listed nowhere
-  clear-nowhere : (j k i n : ℕ) → slice_get pointers j ≡ Some n → IsAt (ptr_lists p) k i n → ⊥
+  pub clear-nowhere : (j k i n : ℕ) → slice_get pointers j ≡ Some n → IsAt (ptr_lists p) k i n → ⊥
   clear-nowhere j k i n at listed =
       false≢true (sym (bit-from_at (bits_in p.pb_maps) n false (can.clear j n at)) ∙ sound.ptr_owners.marked k i n listed)
 
