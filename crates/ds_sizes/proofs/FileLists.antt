@@ -5,7 +5,7 @@ use Rattle.ds_fd.specs.declared.body.Body.{Body}
 use Rattle.ds_image.specs.Objects.{ptrs_by, blocks_by, subs_by, tail_by, ptrs_of, blocks_of, subs_of, tail_of}
 use Rattle.ds_image.specs.Owns.{list_of}
 use Rattle.ds_image.specs.Parts.{Parts, part_at}
-use Rattle.ds_image.specs.Sound.{sub_lists, ptr_lists, block_lists}
+use Rattle.ds_image.specs.Sound.{ptr_lists, block_lists}
 use Rattle.ds_image.proofs.SoundParts.{list-is}
 use Rattle.ds_sizes.specs.Pages.{ptrs_in, blocks_in}
 

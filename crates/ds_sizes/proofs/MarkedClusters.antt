@@ -1,5 +1,5 @@
 -- Where the bitmaps of clusters change by items given up and taken, the marks of the kind do.
-use Rattle.std.proofs.Common.{◌≡◌, ◌≢◌, ℕ, zero, suc, ◌+◌, ◌*◌, ◌/◌, ◌%◌, ◌<◌, ◌≤◌, ◌⊎◌, inl, inr, Bool, true, false, List, length, slice_get, Option, Some, None, IsSome, refl, sym, ap, subst, ◌∙◌, arith}
+use Rattle.std.proofs.Common.{◌≡◌, ◌≢◌, ℕ, ◌+◌, ◌*◌, ◌/◌, ◌%◌, ◌<◌, inl, inr, true, false, List, length, slice_get, Option, Some, None, IsSome, refl, sym, ap, subst, ◌∙◌, arith}
 use Rattle.std.specs.Prelude.{Contains}
 use Rattle.std.proofs.Math.Nat.{div-lt_iff_lt-mul}
 use Rattle.std.proofs.lemmas.Bool.{cases_lt, false≢true}
@@ -21,7 +21,7 @@ use Rattle.ds_changes.proofs.Bits.{bits-get}
 use Rattle.ds_sizes.specs.Clusters.{MarksCluster, MarksClusters}
 use Rattle.ds_sizes.specs.Remarks.{Remarks}
 use Rattle.ds_sizes.specs.Written.{put_all}
-use Rattle.ds_sizes.proofs.PutAll.{put-length, put-spelled, put-cases, put-other, put-there}
+use Rattle.ds_sizes.proofs.PutAll.{put-spelled, put-cases, put-other, put-there}
 
 some-part : {V : Type 0} (r : Option V) → IsSome r → (v : V) × (r ≡ Some v)
 some-part None some = absurd (false≢true some)
@@ -32,12 +32,14 @@ pub marked-is_bits : (g : Geom) (look : Look) (p : Parts) (kind : Kind) (given t
     → MarksCluster g p kind given taken c after → (c < clusters_of g kind) × IsBits g kind c after
 marked-is_bits g look p kind given taken c after reads marks =
     let within : c < clusters_of g kind = omega (arith, part_within (maps_of p kind) c marks.before marks.there, (reads.maps kind).len) in
-    let before = (((reads.maps kind).each c within marks.before).0 marks.there).0 in
-    (within, record {
-      same_kind = marks.same_kind ∙ before.same_kind;
-      same_cluster = marks.same_cluster ∙ before.same_cluster;
-      count = marks.count ∙ before.count;
-    })
+    let before = (((reads.maps kind).each c within marks.before).0 marks.there).0 in (
+      within,
+      record {
+        same_kind = marks.same_kind ∙ before.same_kind;
+        same_cluster = marks.same_cluster ∙ before.same_cluster;
+        count = marks.count ∙ before.count;
+      },
+    )
 
 module _ (g : Geom) (look look' : Look) (p : Parts) (kind : Kind) (given taken : List ℕ) (writes : List (ℕ × Bitmap)) (reads : Reads g look p)
     (all : AllSpelled (maps_of p kind)) (marks : MarksClusters g p kind given taken writes) (can : CanMark (bits_in (maps_of p kind)) taken)

@@ -1,12 +1,12 @@
 -- An object lists other items in the place of its last ones, and the marks follow.
-use Rattle.std.proofs.Common.{◌≡◌, ◌≢◌, ℕ, zero, suc, ◌+◌, ◌<◌, ◌≤◌, ◌⊎◌, cond, Bool, true, false, inl, inr, List, [], ◌∷◌, ◌++◌, length, set, slice_get, Some, refl, sym, ap, subst, ◌∙◌, get_or-set_same, get_or-set_other, arith}
+use Rattle.std.proofs.Common.{◌≡◌, ◌≢◌, ℕ, zero, suc, ◌+◌, ◌<◌, ◌≤◌, ◌⊎◌, cond, Bool, true, false, inl, inr, List, [], ◌∷◌, ◌++◌, length, set, slice_get, Some, refl, sym, ap, ◌∙◌, get_or-set_same, get_or-set_other, arith}
 use Rattle.std.specs.Prelude.{Contains, not}
 use Rattle.std.proofs.lemmas.Bool.{cases_eq, cases_Bool, false≢true}
 use Rattle.std.proofs.lemmas.List.Sums.{sum_by-set}
-use Rattle.std.proofs.lemmas.Option.{slice_get_within, get_or_from_slice_get}
+use Rattle.std.proofs.lemmas.Option.{slice_get_within}
 use Rattle.ds_image.specs.Owned.{AddsItems, CanMark, AddsMarks, ClearsMarks, with_marks}
 use Rattle.ds_image.specs.Owns.{Owns, list_of, bit}
-use Rattle.ds_image.proofs.Marking.{clears-many, can-one, adds-one, can-back}
+use Rattle.ds_image.proofs.Marking.{clears-many, adds-one, can-back}
 use Rattle.ds_image.proofs.Owning.{owns-adds, owns-given_up}
 use Rattle.ds_image.proofs.Places.{Contains-from_at, at-from_Contains, bit-at, bit-from_at, marked-within}
 use Rattle.ds_changes.proofs.Bits.{clear_count}

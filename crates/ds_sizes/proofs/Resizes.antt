@@ -1,6 +1,6 @@
 -- An image of which a file has another size stands for what the call makes of the tree.
-use Rattle.std.proofs.Common.{◌≡◌, ◌≢◌, ℕ, suc, ◌+◌, ◌-◌, ◌<◌, ◌≤◌, min, false, List, [], ◌∷◌, length, take, map, nat_eq, nat_lt, slice_get, Some, None, MatchOption, refl, sym, ap, subst, ◌∙◌, length-append, ne_eqb, inl, inr, arith}
-use Rattle.std.specs.Prelude.{All, Contains}
+use Rattle.std.proofs.Common.{◌≡◌, ◌≢◌, ℕ, suc, ◌+◌, ◌-◌, ◌<◌, ◌≤◌, false, List, [], ◌∷◌, length, take, nat_eq, nat_lt, slice_get, Some, None, MatchOption, refl, sym, ap, subst, ◌∙◌, length-append, ne_eqb, inl, inr, arith}
+use Rattle.std.specs.Prelude.{Contains}
 use Rattle.std.specs.List.{AllByRecursion, IsDistinct, flat_map}
 use Rattle.std.proofs.lemmas.Bool.{false≢true}
 use Rattle.std.proofs.lemmas.Bool.Decides.{nat_tests}
@@ -16,15 +16,13 @@ use Rattle.ds_tree.proofs.StepKeeps.{step-keeps}
 use Rattle.ds_tree.specs.Counts.{pointer_blocks, free_of}
 use Rattle.ds_tree.specs.Nodes.{File, Object, FileTree, unborn, node_at, node_of_key, all_blocks, with_node}
 use Rattle.ds_tree.specs.Nodes as nodes
-use Rattle.ds_tree.specs.Steps.{refusal, refuses_resize, in_file, Resizes, Succeeds, Does}
+use Rattle.ds_tree.specs.Steps.{refuses_resize, in_file, Resizes, Succeeds, Does}
 use Rattle.ds_tree.specs.WellFormed.{IsTree}
 use Rattle.ds_tree.specs.declared.calls.CallOf.TheVariants.{Resize}
 use Rattle.ds_tree.specs.declared.calls.TreeReply.TheVariants.{Sized}
-use Rattle.ds_image.specs.Looks.{Look}
 use Rattle.ds_image.specs.Objects.{blocks_of, tree_of}
-use Rattle.ds_image.specs.Owned.{CanMark}
 use Rattle.ds_image.specs.Owns.{IsAt}
-use Rattle.ds_image.specs.Parts.{Parts, part_at, bits_in}
+use Rattle.ds_image.specs.Parts.{Parts, bits_in}
 use Rattle.ds_image.specs.Readings.{Reads}
 use Rattle.ds_image.specs.Sound.{IsSound, block_lists}
 use Rattle.ds_image.proofs.Listed.{bits_length}
@@ -36,7 +34,7 @@ use Rattle.ds_changes.specs.Making.{Leaves}
 use Rattle.ds_changes.proofs.FreeItems.{free-clear}
 use Rattle.ds_changes.proofs.Granting.{key-node}
 use Rattle.ds_sizes.specs.Pages.{ptrs_in, blocks_in}
-use Rattle.ds_sizes.specs.Resizing.{ResizesParts, blocks_after}
+use Rattle.ds_sizes.specs.Resizing.{ResizesParts}
 use Rattle.ds_sizes.proofs.Paged.{count-most, ptrs-length}
 use Rattle.ds_sizes.proofs.Remarked.{can-few}
 use Rattle.ds_sizes.proofs.Resized.{size-after, resized-sound}
@@ -52,9 +50,10 @@ apart-from x (y ∷ ys) differ = (ne_eqb x y (differ 0 y refl), apart-from x ys 
 distinct-from_once : (xs : List ℕ) → ((i j x : ℕ) → slice_get xs i ≡ Some x → slice_get xs j ≡ Some x → i ≡ j) → IsDistinct nat_eq xs
 unfolding IsDistinct
 distinct-from_once [] once = tt
-distinct-from_once (x ∷ xs) once =
-    (apart-from x xs (λ i y at same. absurd (let places : 0 ≡ suc i = once 0 (suc i) x refl (at ∙ ap Some (sym same)) in omega (arith, places))),
-    distinct-from_once xs (λ i j y at at'. omega (arith, once (suc i) (suc j) y at at')))
+distinct-from_once (x ∷ xs) once = (
+  apart-from x xs (λ i y at same. absurd (let places : 0 ≡ suc i = once 0 (suc i) x refl (at ∙ ap Some (sym same)) in omega (arith, places))),
+  distinct-from_once xs (λ i j y at at'. omega (arith, once (suc i) (suc j) y at at')),
+)
 
 -- an item of joined lists is one of one of them
 flat-at : {X : Type 0} (f : X → List ℕ) (xs : List X) (i x : ℕ) → slice_get (flat_map f xs) i ≡ Some x

@@ -1,5 +1,5 @@
 -- In parts that agree with one another the pointer blocks of a file have the pages of its blocks.
-use Rattle.std.proofs.Common.{◌≡◌, ℕ, suc, ◌+◌, ◌-◌, ◌*◌, ◌/◌, ◌<◌, ◌≤◌, min, Bool, true, false, nat_le, if◌then◌else◌, List, [], ◌++◌, length, take, drop, get_or, slice_get, Option, Some, None, IsSome, refl, sym, ap, subst, ◌∙◌, arith}
+use Rattle.std.proofs.Common.{◌≡◌, ℕ, suc, ◌+◌, ◌*◌, ◌≤◌, Bool, true, false, nat_le, if◌then◌else◌, List, ◌++◌, length, take, drop, slice_get, Option, Some, None, IsSome, refl, sym, ap, subst, ◌∙◌, arith}
 use Rattle.std.specs.List.{flat_map}
 use Rattle.std.proofs.lemmas.Bool.{false≢true}
 use Rattle.std.proofs.lemmas.Bool.Decides.{nat_tests}
@@ -63,7 +63,7 @@ pub page-kept : (blocks added : List ℕ) (size k : ℕ) (page : List ℕ) → 1
 page-kept blocks added size k page below inside is = record {
   count = is.count;
   each = λ i small. is.each i small ∙ sym (
-    get_or_append_left (take size blocks) added 0 (128 * k + i) (omega (arith, length-take size blocks, below, inside))
-    ∙ get_or-take size blocks (128 * k + i) 0 (omega (arith, below))
-  );
+      get_or_append_left (take size blocks) added 0 (128 * k + i) (omega (arith, length-take size blocks, below, inside))
+      ∙ get_or-take size blocks (128 * k + i) 0 (omega (arith, below))
+      );
 }

@@ -1,5 +1,5 @@
 -- What a volume spells after sectors of several parts were written.
-use Rattle.std.proofs.Common.{◌≡◌, ℕ, suc, ◌<◌, List, [], ◌∷◌, ◌++◌, length, slice_get, slice_set, Some, refl, sym, ap, subst, ◌∙◌, length-set, arith}
+use Rattle.std.proofs.Common.{◌≡◌, suc, List, [], ◌∷◌, ◌++◌, length, slice_get, slice_set, refl, sym, subst, length-set, arith}
 use Rattle.ds_base.specs.Geometry.{IsGeom}
 use Rattle.ds_base.specs.declared.geometry.Geom.{Geom}
 use Rattle.ds_base.specs.declared.sectors.Sector.{Sector}
@@ -9,7 +9,7 @@ use Rattle.ds_image.specs.Pending.{Pair}
 use Rattle.ds_image.specs.Readings.{Reads}
 use Rattle.ds_layout.specs.Places.{place_sector}
 use Rattle.ds_changes.proofs.Frames.{reads-body, reads-map, reads-sub, reads-ptr}
-use Rattle.ds_sizes.specs.Written.{Written, MapPart, BodyPart, SubPart, PtrPart, place_of, bytes_of, with_part, with_parts, IsPairOf, ArePairsOf, CanWrite, CanWriteAll}
+use Rattle.ds_sizes.specs.Written.{Written, MapPart, BodyPart, SubPart, PtrPart, place_of, bytes_of, with_part, with_parts, ArePairsOf, CanWrite, CanWriteAll}
 
 -- one part
 reads-part : (g : Geom) → IsGeom g → (image : List Sector) (p : Parts) (part : Written) (s : Sector) → CanWrite g image part → s.bytes ≡ bytes_of part

@@ -1,12 +1,11 @@
 -- After the changed pointer blocks of a file were written they all have the pages of its blocks, and those of other files stay.
-use Rattle.std.proofs.Common.{◌≡◌, ◌≢◌, ℕ, suc, ◌+◌, ◌*◌, ◌/◌, ◌<◌, ◌≤◌, min, ◌⊎◌, inl, inr, Bool, false, List, ◌++◌, length, take, drop, get_or, slice_get, Option, Some, None, refl, sym, ap, subst, ◌∙◌, arith}
+use Rattle.std.proofs.Common.{◌≡◌, ◌≢◌, ℕ, suc, ◌+◌, ◌*◌, ◌<◌, ◌≤◌, ◌⊎◌, inl, inr, false, List, ◌++◌, length, take, drop, slice_get, Some, sym, ap, subst, ◌∙◌, arith}
 use Rattle.std.proofs.lemmas.Bool.{cases_lt, false≢true}
-use Rattle.std.proofs.lemmas.List.{get_or-take, length-take, take-append-drop}
-use Rattle.std.proofs.lemmas.Option.{slice_get_within, slice_get-get_or, get_or_from_slice_get}
+use Rattle.std.proofs.lemmas.List.{length-take, take-append-drop}
+use Rattle.std.proofs.lemmas.Option.{slice_get_within}
 use Rattle.ds_base.specs.Geometry.{items_of}
 use Rattle.ds_base.specs.declared.geometry.Geom.{Geom}
 use Rattle.ds_base.specs.declared.geometry.Kind.TheVariants.{Pb}
-use Rattle.ds_base.specs.declared.names.NodeKind.TheVariants as kinds
 use Rattle.ds_fd.specs.declared.body.Body.{Body}
 use Rattle.ds_ptr.specs.declared.ptr_block.PtrBlock.{PtrBlock}
 use Rattle.ds_tree.specs.Counts.{pointer_blocks}
@@ -21,7 +20,7 @@ use Rattle.ds_image.proofs.Listed.{bits_length, ptr_listed_within}
 use Rattle.ds_image.proofs.Places.{at-append, at-append_left, bit-from_at}
 use Rattle.ds_image.proofs.Sizes.{body_is}
 use Rattle.ds_sizes.specs.Pages.{ptrs_in, blocks_in, IsPage, SpellsBlocks}
-use Rattle.ds_sizes.specs.Pointers.{WritesPage, WritesPages}
+use Rattle.ds_sizes.specs.Pointers.{WritesPages}
 use Rattle.ds_sizes.specs.Resizing.{IsResized, blocks_after}
 use Rattle.ds_sizes.specs.Written.{put_all}
 use Rattle.ds_sizes.proofs.FileLists.{ptr_list-is}
@@ -39,9 +38,9 @@ module _ (g : Geom) (look : Look) (p : Parts) (reads : Reads g look p) (sound : 
       → IsAt (ptr_lists p) o k n ⊎ ((j : ℕ) × (k ≡ length kept + j) × (slice_get pointers j ≡ Some n))
   pointer-was k n at = elim (at-append kept pointers k n (subst (λ l. slice_get l k ≡ Some n) lists at)) [
     | inl old ↦ inl (
-      ap (λ l. slice_get l k) (ptr_list-is p o b body.there body.file)
-      ∙ subst (λ l. slice_get l k ≡ Some n) (take-append-drop (pointer_blocks size) (ptrs_in b)) (at-append_left kept (drop (pointer_blocks size) (ptrs_in b)) k n old)
-    )
+        ap (λ l. slice_get l k) (ptr_list-is p o b body.there body.file)
+        ∙ subst (λ l. slice_get l k ≡ Some n) (take-append-drop (pointer_blocks size) (ptrs_in b)) (at-append_left kept (drop (pointer_blocks size) (ptrs_in b)) k n old)
+        )
     | inr new ↦ inr new
   ]
 
