@@ -1,3 +1,4 @@
+pub mod BuiltPages
 pub mod FileLists
 pub mod GuardedResizes
 pub mod MarkedClusters

@@ -1,0 +1,118 @@
+-- Pages and bodies as a planner puts them together.
+use Rattle.std.proofs.Common.{◌≡◌, ℕ, ◌+◌, ◌-◌, ◌*◌, ◌/◌, ◌^◌, ◌<◌, ◌≤◌, min, false, true, nat_le, inl, inr, List, [], ◌++◌, length, take, drop, get_or, replicate, Some, lit<, refl, sym, ap, subst, ◌∙◌, length-append, arith}
+use Rattle.std.specs.Prelude.{slice_index}
+use Rattle.std.proofs.Math.Seq.{drop-append_seam, take-append_seam}
+use Rattle.std.proofs.lemmas.Bool.{cases_lt}
+use Rattle.std.proofs.lemmas.Bool.Decides.{nat_tests}
+use Rattle.std.proofs.lemmas.List.{get_or-take, get_or_append_left, get_or-append_right, length-take, length-replicate}
+use Rattle.ds_base.specs.declared.names.NodeKind.TheVariants as kinds
+use Rattle.ds_bytes.specs.Fields.{zeros, AllBelow}
+use Rattle.ds_fd.specs.Body.{IsBody, least_birth, links_of, most_count, addresses_used}
+use Rattle.ds_fd.specs.declared.body.Body.{Body}
+use Rattle.ds_image.specs.Parts.{Parts, part_at}
+use Rattle.ds_tree.specs.Counts.{pointer_blocks}
+use Rattle.ds_sizes.specs.Pages.{ptrs_in, IsPage}
+use Rattle.ds_sizes.specs.Resizing.{IsResized}
+use Rattle.ds_sizes.proofs.Paged.{few-pointers, some-pointers}
+
+-- a page of a cut list with numbers behind it: those of the list up to the cut, and then those behind it
+pub page-mixed : (blocks added : List ℕ) (size k : ℕ) (page : List ℕ) → length page ≡ 128
+    → ((i : ℕ) → i < 128 → 128 * k + i < length (take size blocks) → slice_index page i ≡ slice_index blocks (128 * k + i))
+    → ((i : ℕ) → i < 128 → length (take size blocks) ≤ 128 * k + i → slice_index page i ≡ slice_index added (128 * k + i - length (take size blocks)))
+    → IsPage (take size blocks ++ added) k page
+page-mixed blocks added size k page count front back = record {
+  count = count;
+  each = λ i small. elim (cases_lt (128 * k + i) (length (take size blocks))) [
+    | inl low ↦ front i small low ∙ sym (
+      get_or_append_left (take size blocks) added 0 (128 * k + i) low
+      ∙ get_or-take size blocks (128 * k + i) 0 (omega (arith, low, length-take size blocks))
+    )
+    | inr high ↦ back i small high ∙ sym (get_or-append_right (take size blocks) added (length (take size blocks)) (128 * k + i) 0 refl high)
+  ];
+}
+
+-- The body of a file with another size
+
+length-zeros : (n : ℕ) → length (zeros n) ≡ n
+unfolding zeros
+length-zeros n = length-replicate n 0
+
+-- the fields of such a body: as many addresses as the size needs, and zeros behind them
+pub record HasSize (b b' : Body) (size : ℕ) (used : List ℕ) : Type 0 where
+  pub object : b'.object ≡ b.object
+  pub kind : b'.kind ≡ b.kind
+  pub links : b'.links ≡ b.links
+  pub birth : b'.birth ≡ b.birth
+  pub count : b'.count ≡ size
+  pub most : size ≤ 12288
+  pub addresses : b'.addresses ≡ used ++ zeros (96 - length used)
+  pub many : length used ≡ addresses_used (Some kinds.File) size
+  pub below : AllBelow (2 ^ 32) b'.addresses
+
+used-most : (size : ℕ) → size ≤ 12288 → addresses_used (Some kinds.File) size ≤ 96
+used-most size most = elim (cases_lt 96 size) [
+  | inl many ↦ let test : nat_le size 96 ≡ false = grind (arith, nat_tests, many) in rw test (omega (arith, most))
+  | inr few ↦ let test : nat_le size 96 ≡ true = grind (arith, nat_tests, few) in rw test few
+]
+
+module _ (b b' : Body) (size : ℕ) (used : List ℕ) (is : IsBody b) (file : b.kind ≡ Some kinds.File) (has : HasSize b b' size used) where
+  used-few : length used ≤ 96
+  used-few = omega (arith, has.many, used-most size has.most)
+
+  file-after : b'.kind ≡ Some kinds.File
+  file-after = has.kind ∙ file
+
+  many-after : addresses_used b'.kind b'.count ≡ length used
+  many-after = ap (λ kind. addresses_used kind b'.count) file-after ∙ ap (addresses_used (Some kinds.File)) has.count ∙ sym has.many
+
+  pub sized-is_body : IsBody b'
+  sized-is_body = record {
+    widths = record {
+      object_fits = omega (arith, has.object, is.widths.object_fits);
+      links_fit = omega (arith, has.links, is.widths.links_fit);
+      birth_fits = omega (arith, has.birth, is.widths.birth_fits);
+      count_fits = omega (arith, has.count, has.most);
+      address_count = ap length has.addresses ∙ length-append used (zeros (96 - length used)) ∙ omega (arith, length-zeros (96 - length used), used-few);
+      addresses_fit = has.below;
+    };
+    ranges = record {
+      links_are = has.links ∙ is.ranges.links_are ∙ ap links_of (sym has.kind);
+      count_to = subst (λ kind. b'.count ≤ most_count kind) (sym file-after) (omega (arith, has.count, has.most));
+      birth_from = subst (λ kind. least_birth kind ≤ b'.birth) (sym has.kind) (omega (arith, has.birth, is.ranges.birth_from));
+      birth_to = omega (arith, has.birth, is.ranges.birth_to);
+      rest_is_zero =
+          ap (λ n. drop n b'.addresses) many-after ∙ ap (drop (length used)) has.addresses ∙ drop-append_seam used (zeros (96 - length used))
+          ∙ ap (λ n. zeros (96 - n)) (sym many-after);
+    };
+  }
+
+  pub sized-body : (p : Parts) (o : ℕ) → part_at p.bodies o ≡ Some b → IsResized p o b b' size
+  sized-body p o there = record {
+    there = there;
+    file = file;
+    is_body = sized-is_body;
+    object = has.object;
+    kind = file-after;
+    birth = has.birth;
+    count = has.count;
+  }
+
+  front-is : take (length used) b'.addresses ≡ used
+  front-is = ap (take (length used)) has.addresses ∙ take-append_seam used (zeros (96 - length used))
+
+  -- above 96 blocks the addresses are the pointer blocks
+  pub sized-pointers : 96 < size → ptrs_in b' ≡ used
+  sized-pointers many =
+      let test : nat_le size 96 ≡ false = grind (arith, nat_tests, many) in
+      let as-many : (size + 127) / 128 ≡ length used = sym (has.many ∙ (rw test refl)) in
+      ap (λ n. take n b'.addresses) (ap pointer_blocks has.count ∙ some-pointers size many ∙ as-many) ∙ front-is
+
+  -- and else there are none, and they are the blocks
+  pub sized-no_pointers : size ≤ 96 → ptrs_in b' ≡ []
+  sized-no_pointers few = ap (λ n. take n b'.addresses) (few-pointers b'.count (omega (arith, few, has.count)))
+
+  pub sized-direct : size ≤ 96 → take size b'.addresses ≡ used
+  sized-direct few =
+      let test : nat_le size 96 ≡ true = grind (arith, nat_tests, few) in
+      let as-many : size ≡ length used = sym (has.many ∙ (rw test refl)) in
+      ap (λ n. take n b'.addresses) as-many ∙ front-is
