@@ -4,6 +4,7 @@ pub mod GuardedResizes
 pub mod MarkedClusters
 pub mod Paged
 pub mod PutAll
+pub mod Refused
 pub mod Remarked
 pub mod Resized
 pub mod ResizedTrees
@@ -11,5 +12,6 @@ pub mod Resizes
 pub mod SamePointers
 pub mod SpelledBlocks
 pub mod StandsResized
+pub mod TakenItems
 pub mod WrittenPages
 pub mod Writing

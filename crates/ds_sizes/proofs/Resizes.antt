@@ -75,7 +75,7 @@ resize-granted g t size blocks most near fb pb =
     let four : nat_lt (free_of g t Pb) (pointer_blocks size - pointer_blocks (length blocks)) ≡ false = grind (arith, nat_tests) in
     rw (one, two, three, four) refl
 
-resize-does : (g : Geom) (t u : FileTree) (file : Key) (size : ℕ) (blocks : List ℕ) → node_of_key t file ≡ Some (File blocks)
+pub resize-does : (g : Geom) (t u : FileTree) (file : Key) (size : ℕ) (blocks : List ℕ) → node_of_key t file ≡ Some (File blocks)
     → refuses_resize g t size blocks ≡ None → Resizes g t file size u → Does g t (Resize file size) (Sized size) u
 resize-does g t u file size blocks node granted resizes =
     subst (λ r. MatchOption r (Succeeds g t (Resize file size) (Sized size) u) (λ refused. (Sized size ≡ refused) × (u ≡ t)))

@@ -4,4 +4,5 @@ pub mod Pointers
 pub mod Ready
 pub mod Remarks
 pub mod Resizing
+pub mod Takes
 pub mod Written
