@@ -12,6 +12,7 @@ use Rattle.ds_fd.specs.declared.body.Body.{Body}
 use Rattle.ds_image.specs.Parts.{Parts, part_at}
 use Rattle.ds_tree.specs.Counts.{pointer_blocks}
 use Rattle.ds_sizes.specs.Pages.{ptrs_in, IsPage}
+use Rattle.ds_sizes.specs.Planned.{HasSize}
 use Rattle.ds_sizes.specs.Resizing.{IsResized}
 use Rattle.ds_sizes.proofs.Paged.{few-pointers, some-pointers}
 
@@ -36,18 +37,6 @@ page-mixed blocks added size k page count front back = record {
 length-zeros : (n : ℕ) → length (zeros n) ≡ n
 unfolding zeros
 length-zeros n = length-replicate n 0
-
--- the fields of such a body: as many addresses as the size needs, and zeros behind them
-pub record HasSize (b b' : Body) (size : ℕ) (used : List ℕ) : Type 0 where
-  pub object : b'.object ≡ b.object
-  pub kind : b'.kind ≡ b.kind
-  pub links : b'.links ≡ b.links
-  pub birth : b'.birth ≡ b.birth
-  pub count : b'.count ≡ size
-  pub most : size ≤ 12288
-  pub addresses : b'.addresses ≡ used ++ zeros (96 - length used)
-  pub many : length used ≡ addresses_used (Some kinds.File) size
-  pub below : AllBelow (2 ^ 32) b'.addresses
 
 used-most : (size : ℕ) → size ≤ 12288 → addresses_used (Some kinds.File) size ≤ 96
 used-most size most = elim (cases_lt 96 size) [

@@ -4,6 +4,7 @@ pub mod GuardedResizes
 pub mod MarkedClusters
 pub mod Paged
 pub mod PutAll
+pub mod ReadyFiles
 pub mod Refused
 pub mod Remarked
 pub mod Resized

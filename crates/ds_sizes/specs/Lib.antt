@@ -1,5 +1,6 @@
 pub mod Clusters
 pub mod Pages
+pub mod Planned
 pub mod Pointers
 pub mod Ready
 pub mod Remarks
