@@ -1,10 +1,12 @@
 -- Pages and bodies as a planner puts them together.
-use Rattle.std.proofs.Common.{◌≡◌, ℕ, ◌+◌, ◌-◌, ◌*◌, ◌/◌, ◌^◌, ◌<◌, ◌≤◌, min, false, true, nat_le, inl, inr, List, [], ◌++◌, length, take, drop, get_or, replicate, Some, lit<, refl, sym, ap, subst, ◌∙◌, length-append, arith}
+use Rattle.std.proofs.Common.{◌≡◌, ℕ, ◌+◌, ◌-◌, ◌*◌, ◌/◌, ◌^◌, ◌<◌, ◌≤◌, min, false, true, nat_le, inl, inr, List, [], ◌++◌, length, take, drop, get_or, replicate, slice_get, Some, lit<, refl, sym, ap, subst, ◌∙◌, length-append, length-take-le, length-drop, arith}
+use Rattle.std.specs.List.{flat_map}
 use Rattle.std.specs.Prelude.{slice_index}
 use Rattle.std.proofs.Math.Seq.{drop-append_seam, take-append_seam}
 use Rattle.std.proofs.lemmas.Bool.{cases_lt}
 use Rattle.std.proofs.lemmas.Bool.Decides.{nat_tests}
-use Rattle.std.proofs.lemmas.List.{get_or-take, get_or_append_left, get_or-append_right, length-take, length-replicate}
+use Rattle.std.proofs.lemmas.List.{get_or-take, get_or-drop, ext_get_or, get_or_append_left, get_or-append_right, length-take, length-replicate}
+use Rattle.std.proofs.lemmas.Option.{slice_get-get_or, slice_get_within, get_or_from_slice_get}
 use Rattle.ds_base.specs.declared.names.NodeKind.TheVariants as kinds
 use Rattle.ds_bytes.specs.Fields.{zeros, AllBelow}
 use Rattle.ds_fd.specs.Body.{IsBody, least_birth, links_of, most_count, addresses_used}
@@ -14,7 +16,7 @@ use Rattle.ds_tree.specs.Counts.{pointer_blocks}
 use Rattle.ds_sizes.specs.Pages.{ptrs_in, IsPage}
 use Rattle.ds_sizes.specs.Planned.{HasSize}
 use Rattle.ds_sizes.specs.Resizing.{IsResized}
-use Rattle.ds_sizes.proofs.Paged.{few-pointers, some-pointers}
+use Rattle.ds_sizes.proofs.Paged.{joined-list, few-pointers, some-pointers}
 
 -- a page of a cut list with numbers behind it: those of the list up to the cut, and then those behind it
 pub page-mixed : (blocks added : List ℕ) (size k : ℕ) (page : List ℕ) → length page ≡ 128
@@ -31,6 +33,43 @@ page-mixed blocks added size k page count front back = record {
     | inr high ↦ back i small high ∙ sym (get_or-append_right (take size blocks) added (length (take size blocks)) (128 * k + i) 0 refl high)
   ];
 }
+
+-- a file's first blocks are those of its first page
+pub page-front : (blocks page : List ℕ) (size : ℕ) → size ≤ 128 → size ≤ length blocks → IsPage blocks 0 page → take size blocks ≡ take size page
+page-front blocks page size small inside is =
+    let len : length (take size blocks) ≡ size = length-take-le size blocks inside in
+    let len' : length (take size page) ≡ size = length-take-le size page (omega (arith, small, is.count)) in
+    ext_get_or 0 (take size blocks) (take size page) (len ∙ sym len') (λ i l.
+    let low : i < size = omega (arith, l, len) in
+    let place : 128 * 0 + i ≡ i = omega arith in
+    get_or-take size blocks i 0 low ∙ ap (slice_index blocks) (sym place) ∙ sym (is.each i (omega (arith, low, small))) ∙ sym (get_or-take size page i 0 low))
+
+-- pages of a list from one on are those of the rest of the list
+page-later : (blocks : List ℕ) (first k : ℕ) (page : List ℕ) → IsPage blocks (first + k) page → IsPage (drop (128 * first) blocks) k page
+page-later blocks first k page is = record {
+  count = is.count;
+  each = λ i small.
+      let place : 128 * (first + k) + i ≡ 128 * first + (128 * k + i) = omega arith in
+      is.each i small ∙ ap (slice_index blocks) place ∙ sym (get_or-drop (128 * first) blocks (128 * k + i) 0);
+}
+
+-- so the blocks from one page on are those of the last pointer blocks
+pub pages-joined : (f : ℕ → List ℕ) (ns blocks : List ℕ) (first : ℕ) → length blocks ≤ 128 * length ns
+    → ((k n : ℕ) → first ≤ k → slice_get ns k ≡ Some n → IsPage blocks k (f n))
+    → take (length blocks - 128 * first) (flat_map f (drop first ns)) ≡ drop (128 * first) blocks
+pages-joined f ns blocks first fits pages =
+    let rest : List ℕ = drop (128 * first) blocks in
+    let len : length rest ≡ length blocks - 128 * first = length-drop (128 * first) blocks in
+    let len' : length (drop first ns) ≡ length ns - first = length-drop first ns in
+    ap (λ n. take n (flat_map f (drop first ns))) (sym len)
+    ∙ joined-list f (drop first ns) rest (omega (arith, fits, len, len'))
+    (λ k n at. page-later blocks first k (f n) (pages (first + k) n (omega arith) (at-dropped ns first k n at)))
+  where
+    at-dropped : (xs : List ℕ) (m k n : ℕ) → slice_get (drop m xs) k ≡ Some n → slice_get xs (m + k) ≡ Some n
+    at-dropped xs m k n at =
+        let within : k < length (drop m xs) = slice_get_within (drop m xs) k n at in
+        slice_get-get_or xs (m + k) n (omega (arith, within, length-drop m xs))
+        ∙ ap Some (sym (get_or-drop m xs k n) ∙ get_or_from_slice_get (drop m xs) k n n at)
 
 -- The body of a file with another size
 

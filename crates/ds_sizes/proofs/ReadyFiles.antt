@@ -2,8 +2,10 @@
 use Rattle.std.proofs.Common.{◌≡◌, ℕ, suc, ◌+◌, ◌-◌, ◌/◌, ◌<◌, ◌≤◌, inl, inr, List, [], ◌∷◌, ◌++◌, length, take, drop, refl, sym, ap, subst, ◌∙◌, arith}
 use Rattle.std.proofs.lemmas.Bool.{cases_lt}
 use Rattle.std.proofs.lemmas.List.{take_all, drop_all, append-nil}
-use Rattle.ds_base.specs.Geometry.{per_cluster}
+use Rattle.ds_base.specs.Geometry.{IsGeom, per_cluster}
 use Rattle.ds_base.specs.declared.geometry.Geom.{Geom}
+use Rattle.ds_base.specs.declared.geometry.GeomField.TheVariants.{Items}
+use Rattle.ds_base.specs.declared.geometry.Kind.{Kind}
 use Rattle.ds_base.specs.declared.geometry.Kind.TheVariants.{Pb, Fb}
 use Rattle.ds_bitmap.specs.Bits.{Bitmap}
 use Rattle.ds_fd.specs.Body.{IsBody}
@@ -88,8 +90,13 @@ module _ (g : Geom) (look : Look) (p : Parts) (reads : Reads g look p) (sound : 
           (takes-marks g look p Fb reads (sound.maps Fb) blocks grows.block_takes);
     }
 
-  module _ (pb_maps fb_maps : List (ℕ × Bitmap)) (some_pb : 0 < per_cluster g Pb) (some_fb : 0 < per_cluster g Fb)
+  module _ (pb_maps fb_maps : List (ℕ × Bitmap)) (is_geom : IsGeom g)
       (shrinks : ShrinksFile g p o b b' size first pb_maps fb_maps ptrs) where
+    some-items : (kind : Kind) → 0 < per_cluster g kind
+    some-items kind =
+        let from : 1 ≤ per_cluster g kind = (is_geom (Items kind)).0 in
+        omega (arith, from)
+
     was-body : IsBody b
     was-body = body_is g look p o b reads shrinks.there
 
@@ -113,6 +120,6 @@ module _ (g : Geom) (look : Look) (p : Parts) (reads : Reads g look p) (sound : 
       direct = λ small. sized-direct b b' size shrinks.used was-body shrinks.file shrinks.has small ∙ shrinks.few small ∙ sym (append-nil (take size (blocks_in p b)));
       lists = lists-shrunk;
       pages = shrinks.pages;
-      pointer_marks = gives-marks g look p Pb reads (sound.maps Pb) some_pb (drop (pointer_blocks size) (ptrs_in b)) pb_maps shrinks.pointer_gives;
-      block_marks = gives-marks g look p Fb reads (sound.maps Fb) some_fb (drop size (blocks_in p b)) fb_maps shrinks.block_gives;
+      pointer_marks = gives-marks g look p Pb reads (sound.maps Pb) (some-items Pb) (drop (pointer_blocks size) (ptrs_in b)) pb_maps shrinks.pointer_gives;
+      block_marks = gives-marks g look p Fb reads (sound.maps Fb) (some-items Fb) (drop size (blocks_in p b)) fb_maps shrinks.block_gives;
     }
