@@ -1,5 +1,5 @@
 -- Pages and bodies as a planner puts them together.
-use Rattle.std.proofs.Common.{◌≡◌, ℕ, ◌+◌, ◌-◌, ◌*◌, ◌/◌, ◌^◌, ◌<◌, ◌≤◌, min, false, true, nat_le, inl, inr, List, [], ◌++◌, length, take, drop, get_or, replicate, slice_get, Some, lit<, refl, sym, ap, subst, ◌∙◌, length-append, length-take-le, length-drop, arith}
+use Rattle.std.proofs.Common.{◌≡◌, ℕ, ◌+◌, ◌-◌, ◌*◌, ◌/◌, ◌<◌, ◌≤◌, false, true, nat_le, inl, inr, List, [], ◌++◌, length, take, drop, slice_get, Some, refl, sym, ap, subst, ◌∙◌, length-append, length-take-le, length-drop, arith}
 use Rattle.std.specs.List.{flat_map}
 use Rattle.std.specs.Prelude.{slice_index}
 use Rattle.std.proofs.Math.Seq.{drop-append_seam, take-append_seam}
@@ -8,7 +8,7 @@ use Rattle.std.proofs.lemmas.Bool.Decides.{nat_tests}
 use Rattle.std.proofs.lemmas.List.{get_or-take, get_or-drop, ext_get_or, get_or_append_left, get_or-append_right, length-take, length-replicate}
 use Rattle.std.proofs.lemmas.Option.{slice_get-get_or, slice_get_within, get_or_from_slice_get}
 use Rattle.ds_base.specs.declared.names.NodeKind.TheVariants as kinds
-use Rattle.ds_bytes.specs.Fields.{zeros, AllBelow}
+use Rattle.ds_bytes.specs.Fields.{zeros}
 use Rattle.ds_fd.specs.Body.{IsBody, least_birth, links_of, most_count, addresses_used}
 use Rattle.ds_fd.specs.declared.body.Body.{Body}
 use Rattle.ds_image.specs.Parts.{Parts, part_at}
@@ -27,9 +27,9 @@ page-mixed blocks added size k page count front back = record {
   count = count;
   each = λ i small. elim (cases_lt (128 * k + i) (length (take size blocks))) [
     | inl low ↦ front i small low ∙ sym (
-      get_or_append_left (take size blocks) added 0 (128 * k + i) low
-      ∙ get_or-take size blocks (128 * k + i) 0 (omega (arith, low, length-take size blocks))
-    )
+        get_or_append_left (take size blocks) added 0 (128 * k + i) low
+        ∙ get_or-take size blocks (128 * k + i) 0 (omega (arith, low, length-take size blocks))
+        )
     | inr high ↦ back i small high ∙ sym (get_or-append_right (take size blocks) added (length (take size blocks)) (128 * k + i) 0 refl high)
   ];
 }

@@ -13,14 +13,13 @@ use Rattle.ds_base.specs.declared.sectors.Sector.{Sector}
 use Rattle.ds_fd.specs.declared.body.Body.{Body}
 use Rattle.ds_tree.specs.Counts.{pointer_blocks, free_of}
 use Rattle.ds_tree.specs.Nodes.{Node, Dir, File, Object, FileTree, unborn, object_at, node_at, birth_at, node_of_key, with_node}
-use Rattle.ds_tree.specs.Steps.{refusal, refuses_resize, in_file, Resizes, Succeeds, Does}
+use Rattle.ds_tree.specs.Steps.{refusal, refuses_resize, in_file, Succeeds, Does}
 use Rattle.ds_tree.specs.declared.calls.CallOf.TheVariants.{Resize}
 use Rattle.ds_tree.specs.declared.calls.TreeReply.{TreeReply}
 use Rattle.ds_tree.specs.declared.calls.TreeReply.TheVariants.{Sized, NoObject, NotFile, TooBig, TooMuch, NoSpace}
 use Rattle.ds_image.specs.Objects.{entries_of, object_of, tree_of}
 use Rattle.ds_image.specs.Parts.{Parts, part_at, bits_in}
-use Rattle.ds_image.specs.Readings.{Reads}
-use Rattle.ds_image.specs.Sound.{IsSound, StandsFor}
+use Rattle.ds_image.specs.Sound.{StandsFor}
 use Rattle.ds_image.proofs.Sizes.{body_is}
 use Rattle.ds_image.proofs.TreeParts.{object-is}
 use Rattle.ds_changes.specs.Entering.{subs_in}

@@ -1,8 +1,7 @@
 -- Items taken from clusters can be marked, and items given up or taken change the bitmaps of their clusters and no others.
-use Rattle.std.proofs.Common.{◌≡◌, ◌≢◌, ℕ, zero, suc, ◌+◌, ◌*◌, ◌/◌, ◌%◌, ◌<◌, ◌==◌, ◌⊎◌, inl, inr, Bool, true, false, List, [], ◌∷◌, ◌++◌, length, map, filter, slice_get, Some, refl, sym, ap, subst, ◌∙◌, eq-eqb, ne_eqb, arith}
+use Rattle.std.proofs.Common.{◌≡◌, ℕ, zero, suc, ◌+◌, ◌*◌, ◌/◌, ◌%◌, ◌<◌, ◌==◌, inl, inr, Bool, true, false, List, [], ◌∷◌, ◌++◌, length, map, filter, slice_get, Some, refl, sym, ap, subst, ◌∙◌, eq-eqb, arith}
 use Rattle.std.specs.Prelude.{Contains, if◌then◌else◌}
-use Rattle.std.specs.List.{flat_map}
-use Rattle.std.proofs.lemmas.Bool.{cases_eq, cases_Bool, false≢true}
+use Rattle.std.proofs.lemmas.Bool.{cases_Bool}
 use Rattle.std.proofs.lemmas.Bool.Decides.{nat_tests}
 use Rattle.std.proofs.lemmas.Nat.{div-mul-add, mod-mul-add}
 use Rattle.std.proofs.lemmas.Option.{slice_get_within}
@@ -11,16 +10,16 @@ use Rattle.ds_base.specs.declared.geometry.Geom.{Geom}
 use Rattle.ds_base.specs.declared.geometry.Kind.{Kind}
 use Rattle.ds_bitmap.specs.Bits.{Bitmap}
 use Rattle.ds_image.specs.Looks.{Look}
-use Rattle.ds_image.specs.Owned.{CanMark, AddsMarks, ClearsMarks, with_marks}
+use Rattle.ds_image.specs.Owned.{CanMark, AddsMarks, ClearsMarks}
 use Rattle.ds_image.specs.Owns.{bit}
-use Rattle.ds_image.specs.Parts.{Parts, part_at, AllSpelled, maps_of, bits_in}
+use Rattle.ds_image.specs.Parts.{Parts, AllSpelled, maps_of, bits_in}
 use Rattle.ds_image.specs.Readings.{Reads}
 use Rattle.ds_image.proofs.Marking.{adds-many, clears-many}
 use Rattle.ds_image.proofs.Places.{at-append, at-append_left, at-append_right, Contains-from_at, at-from_Contains}
 use Rattle.ds_image.proofs.Sizes.{part_within}
 use Rattle.ds_changes.proofs.Bits.{bit-within, bits-at}
 use Rattle.ds_sizes.specs.Clusters.{MarksCluster, MarksClusters}
-use Rattle.ds_sizes.specs.Takes.{SetsBits, Take, items_taken, maps_taken, Takes, items_in_cluster, Gives}
+use Rattle.ds_sizes.specs.Takes.{Take, items_taken, maps_taken, Takes, items_in_cluster, Gives}
 
 -- Places of mapped and joined lists
 
@@ -102,9 +101,11 @@ from-taken : (g : Geom) (kind : Kind) (takes : List Take) (k : ℕ) (t : Take) (
 from-taken g kind [] k t j item at there = absurd (cc)
 from-taken g kind (s ∷ ts) zero t j item at there =
     let same : s ≡ t = cc in
-    let number = λ (u : Take) (n : ℕ). u.cluster * per_cluster g kind + n in
-    (j, ap (λ u. slice_get (map (number u) u.items ++ items_taken g kind ts) j) same
-    ∙ at-append_left (map (number t) t.items) (items_taken g kind ts) j (number t item) (map-at (number t) t.items j item there))
+    let number = λ (u : Take) (n : ℕ). u.cluster * per_cluster g kind + n in (
+      j,
+      ap (λ u. slice_get (map (number u) u.items ++ items_taken g kind ts) j) same
+          ∙ at-append_left (map (number t) t.items) (items_taken g kind ts) j (number t item) (map-at (number t) t.items j item there),
+    )
 from-taken g kind (s ∷ ts) (suc k) t j item at there =
     let rest = from-taken g kind ts k t j item at there in
     let front : List ℕ = map (λ n. s.cluster * per_cluster g kind + n) s.items in
@@ -135,9 +136,10 @@ module _ (g : Geom) (look : Look) (p : Parts) (kind : Kind) (reads : Reads g loo
 
   -- a number says the cluster and the item in it
   cluster-of : (c c' it it' : ℕ) → it < per → it' < per → c * per + it ≡ c' * per + it' → (c ≡ c') × (it ≡ it')
-  cluster-of c c' it it' small small' same =
-      (sym (div-mul-add c per it small) ∙ ap (λ n. n / per) same ∙ div-mul-add c' per it' small',
-      sym (mod-mul-add c per it small) ∙ ap (λ n. n % per) same ∙ mod-mul-add c' per it' small')
+  cluster-of c c' it it' small small' same = (
+    sym (div-mul-add c per it small) ∙ ap (λ n. n / per) same ∙ div-mul-add c' per it' small',
+    sym (mod-mul-add c per it small) ∙ ap (λ n. n % per) same ∙ mod-mul-add c' per it' small',
+  )
 
   taken-once : (takes : List Take) → Takes p kind takes → (i j x : ℕ) → slice_get (items_taken g kind takes) i ≡ Some x → slice_get (items_taken g kind takes) j ≡ Some x
       → i ≡ j
@@ -230,9 +232,14 @@ module _ (g : Geom) (look : Look) (p : Parts) (kind : Kind) (reads : Reads g loo
         | inr held ↦
             let somewhere = at-from_Contains (items_taken g kind takes) x held in
             let b = taken-from g kind takes somewhere.0 x somewhere.1 in
-            let small = item-within takes are b.index b.from b.at b.place b.item b.there in
-            (b.index, ((b.from.cluster, b.from.map), map-at (λ (u : Take). (u.cluster, u.map)) takes b.index b.from b.at,
-            sym (div-mul-add b.from.cluster per b.item small) ∙ ap (λ n. n / per) b.is))
+            let small = item-within takes are b.index b.from b.at b.place b.item b.there in (
+              b.index,
+              (
+                (b.from.cluster, b.from.map),
+                map-at (λ (u : Take). (u.cluster, u.map)) takes b.index b.from b.at,
+                sym (div-mul-add b.from.cluster per b.item small) ∙ ap (λ n. n / per) b.is,
+              ),
+            )
       ];
     }
 

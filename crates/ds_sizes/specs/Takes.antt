@@ -1,6 +1,5 @@
 -- Items that are taken from clusters of one kind, cluster after cluster.
-use Rattle.std.specs.Prelude.{◌≡◌, ℕ, ◌+◌, ◌*◌, ◌/◌, Bool, true, false, List, map, filter, slice_get, Some}
-use Rattle.std.specs.Prelude.{◌%◌, ◌==◌}
+use Rattle.std.specs.Prelude.{◌≡◌, ℕ, ◌+◌, ◌*◌, ◌/◌, ◌%◌, ◌==◌, Bool, true, false, List, map, filter, slice_get, Some}
 use Rattle.std.specs.List.{flat_map}
 use Rattle.ds_base.specs.Geometry.{per_cluster}
 use Rattle.ds_base.specs.declared.geometry.Geom.{Geom}
