@@ -44,23 +44,23 @@ module _ (g : Geom) (P : ℕ → Type 0) where
   all-targets (pair ∷ pairs) (part ∷ parts) are each =
       All-cons P pair.0 (targets_of pairs) (subst P (sym are.0.target) (each 0 part refl)) (all-targets pairs parts are.1 (λ i x at. each (suc i) x at))
 
-  abbrev HoldsOf : List Written → Type 0
+  abbrev pub HoldsOf : List Written → Type 0
   HoldsOf parts = (i : ℕ) (part : Written) → slice_get parts i ≡ Some part → P (place_sector g (place_of part))
 
-  of-joined : (xs ys : List Written) → HoldsOf xs → HoldsOf ys → HoldsOf (xs ++ ys)
+  pub of-joined : (xs ys : List Written) → HoldsOf xs → HoldsOf ys → HoldsOf (xs ++ ys)
   of-joined xs ys one two i part at = elim (at-append xs ys i part at) [
     | inl front ↦ one i part front
     | inr back ↦ two back.0 part back.2
   ]
 
-  of-mapped : {X : Type 0} (f : X → Written) (xs : List X) → ((i : ℕ) (x : X) → slice_get xs i ≡ Some x → P (place_sector g (place_of (f x)))) → HoldsOf (map f xs)
+  pub of-mapped : {X : Type 0} (f : X → Written) (xs : List X) → ((i : ℕ) (x : X) → slice_get xs i ≡ Some x → P (place_sector g (place_of (f x)))) → HoldsOf (map f xs)
   of-mapped f [] each i part at = absurd (cc)
   of-mapped f (x ∷ xs) each zero part at =
       let same : f x ≡ part = cc in
       subst (λ y. P (place_sector g (place_of y))) same (each 0 x refl)
   of-mapped f (x ∷ xs) each (suc i) part at = of-mapped f xs (λ j y at. each (suc j) y at) i part at
 
-  of-first : (x : Written) (xs : List Written) → P (place_sector g (place_of x)) → HoldsOf xs → HoldsOf (x ∷ xs)
+  pub of-first : (x : Written) (xs : List Written) → P (place_sector g (place_of x)) → HoldsOf xs → HoldsOf (x ∷ xs)
   of-first x xs one rest zero part at = let same : x ≡ part = cc in subst (λ y. P (place_sector g (place_of y))) same one
   of-first x xs one rest (suc i) part at = rest i part at
 

@@ -9,6 +9,7 @@ pub mod Refused
 pub mod Remarked
 pub mod Resized
 pub mod ResizedTrees
+pub mod ResizeTargets
 pub mod Resizes
 pub mod SamePointers
 pub mod SpelledBlocks
