@@ -3,6 +3,7 @@ pub mod FileLists
 pub mod GuardedResizes
 pub mod MarkedClusters
 pub mod Paged
+pub mod PointerSectors
 pub mod PutAll
 pub mod ReadyFiles
 pub mod Refused

@@ -1,5 +1,5 @@
 -- The sectors that are written to resize a file are metadata and stand in their order.
-use Rattle.std.proofs.Common.{◌≡◌, ℕ, zero, suc, ◌+◌, ◌*◌, ◌<◌, ◌≤◌, inl, inr, List, [], ◌∷◌, ◌++◌, length, map, slice_get, Some, refl, sym, ap, subst, ◌∙◌, length-append, arith}
+use Rattle.std.proofs.Common.{◌≡◌, ℕ, zero, suc, ◌+◌, ◌<◌, ◌≤◌, List, [], ◌∷◌, ◌++◌, length, map, slice_get, Some, refl, sym, ap, subst, ◌∙◌, length-append, arith}
 use Rattle.std.specs.Prelude.{slice_index, slice_index_or}
 use Rattle.std.specs.List.Sorted.{IsStrictlyIncreasing}
 use Rattle.std.proofs.lemmas.List.{length-map, map-append}
@@ -11,7 +11,7 @@ use Rattle.ds_fd.specs.declared.body.Body.{Body}
 use Rattle.ds_image.specs.Asking.{AreTargets, targets_of}
 use Rattle.ds_image.specs.Metadata.{IsMetadata}
 use Rattle.ds_image.specs.Pending.{Pair}
-use Rattle.ds_layout.specs.Places.{place_sector, cluster_at, descriptors_at, sub_blocks_at}
+use Rattle.ds_layout.specs.Places.{place_sector, cluster_at, descriptors_at}
 use Rattle.ds_layout.specs.declared.places.Place.TheVariants as places
 use Rattle.ds_ptr.specs.declared.ptr_block.PtrBlock.{PtrBlock}
 use Rattle.ds_sizes.specs.Ready.{resize_parts}
@@ -144,10 +144,11 @@ module _ (g : Geom) (o : ℕ) (b' : Body) (pb_maps fb_maps : List (ℕ × Bitmap
       (rises-joined from-fb from-body fbs (place_sector g (places.Body o) ∷ rest) (omega arith)
       (mapped-below (λ (m : ℕ × Bitmap). place_sector g (places.Bitmap Fb m.0)) from-body fb_maps (λ i m at. let low = fb_within i m at in omega (arith, low)))
       (sectors-rise (λ c. place_sector g (places.Bitmap Fb c)) (λ a b below. omega (arith, below)) 0 fb_maps
-      (increasing-rises 0 (map (λ (m : ℕ × Bitmap). m.0) fb_maps) fb_rise (omega arith)) from-fb (λ a _. omega arith))
-      (omega arith,
-      sectors-rise (λ n. place_sector g (places.PtrBlock n)) (λ a b below. omega (arith, below)) 0 ptrs
-      (increasing-rises 0 (map (λ (x : ℕ × PtrBlock). x.0) ptrs) ptr_rise (omega arith)) (suc (place_sector g (places.Body o))) (λ a _. omega (arith, object))))
+      (increasing-rises 0 (map (λ (m : ℕ × Bitmap). m.0) fb_maps) fb_rise (omega arith)) from-fb (λ a _. omega arith)) (
+        omega arith,
+        sectors-rise (λ n. place_sector g (places.PtrBlock n)) (λ a b below. omega (arith, below)) 0 ptrs
+            (increasing-rises 0 (map (λ (x : ℕ × PtrBlock). x.0) ptrs) ptr_rise (omega arith)) (suc (place_sector g (places.Body o))) (λ a _. omega (arith, object)),
+      ))
 
   -- so they are targets of a redo, where they are few enough
   pub resize-targets : IsStrictlyIncreasing (map (λ (m : ℕ × Bitmap). m.0) pb_maps) → IsStrictlyIncreasing (map (λ (m : ℕ × Bitmap). m.0) fb_maps)
