@@ -1,0 +1,9 @@
+pub mod Clusters
+pub mod Pages
+pub mod Planned
+pub mod Pointers
+pub mod Ready
+pub mod Remarks
+pub mod Resizing
+pub mod Takes
+pub mod Written
