@@ -193,6 +193,11 @@ fn a_scenario_is_refused_where_it_is_bad_stuck_or_not_built(rt: HostRuntime) -> 
             not_built(0, 3),
         ),
         ("host a\na register\na create root a/b\n", not_built(0, 2)),
+        // A name of 101 bytes.
+        (
+            "host a\na register\na lookup root nnnnnnnnnnnnnnnnnnnnnnnnnnnnnnnnnnnnnnnnnnnnnnnnnnnnnnnnnnnnnnnnnnnnnnnnnnnnnnnnnnnnnnnnnnnnnnnnnnnnn\n",
+            not_built(0, 2),
+        ),
         (
             "host a\na register\na create root a\na create root b\na create root c\na create root d\na create root e\n",
             not_built(0, 6),
@@ -224,6 +229,14 @@ fn a_report_has_each_answer_and_the_tree(rt: HostRuntime) -> Result<(), Fail> {
         "# one host\r\nhost\ta\r\n\n a  register \na create root disk\nstep a 3\n#a die\na create root disk\na lookup root disk\na lookup root log";
     assert!(rt; reports(alloc, spaced, REPORT)?);
     assert!(rt; reports(alloc, "", b"changes 0\n/ 0.1 dir\n")?);
+    // A name of 100 bytes.
+    assert!(rt;
+        reports(
+            alloc,
+            "host a\na register\na lookup root nnnnnnnnnnnnnnnnnnnnnnnnnnnnnnnnnnnnnnnnnnnnnnnnnnnnnnnnnnnnnnnnnnnnnnnnnnnnnnnnnnnnnnnnnnnnnnnnnnnn\n",
+            b"a 1 register ok 0.1\na 2 lookup not-found at 0\nchanges 0\n/ 0.1 dir\n",
+        )?
+    );
     assert!(rt;
         reports(
             alloc,
