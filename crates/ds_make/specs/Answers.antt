@@ -13,13 +13,14 @@ use Rattle.ds_image.specs.declared.asks.Ask.{Ask}
 use Rattle.ds_image.specs.declared.asks.Ask.TheVariants.{Lock, Odd, Worn, Change}
 use Rattle.ds_layout.specs.Places.{place_sector}
 use Rattle.ds_layout.specs.declared.places.Place.TheVariants as places
-use Rattle.ds_make.specs.Items.{number_of, wanted_item}
-use Rattle.ds_make.specs.Redos.{new_object, pairs_filled, pairs_grown, redo_of}
-use Rattle.ds_make.specs.Rooms.{entries_before, room_in}
-use Rattle.ds_make.specs.declared.items.FreeItem.{FreeItem}
+use Rattle.ds_plans.specs.Items.{number_of, wanted_item}
+use Rattle.ds_make.specs.Redos.{new_object, pairs_filled, pairs_grown}
+use Rattle.ds_plans.specs.Redos.{redo_of}
+use Rattle.ds_plans.specs.Rooms.{entries_before, room_in}
+use Rattle.ds_plans.specs.declared.items.FreeItem.{FreeItem}
 use Rattle.ds_make.specs.declared.objects.NewObject.{NewObject}
 use Rattle.ds_make.specs.declared.making.Making.{Making}
-use Rattle.ds_make.specs.declared.rooms.FreeRoom.{FreeRoom}
+use Rattle.ds_plans.specs.declared.rooms.FreeRoom.{FreeRoom}
 use Rattle.ds_plans.specs.Bodies.{body_seen, dir_of_key}
 use Rattle.ds_plans.specs.Steps.{after}
 use Rattle.ds_tree.specs.declared.calls.CallOf.{CallOf}

@@ -40,48 +40,26 @@ use Rattle.ds_image.specs.Sound.{StandsFor}
 use Rattle.ds_layout.proofs.Bounds.{most_items_of}
 use Rattle.ds_layout.specs.Places.{place_sector}
 use Rattle.ds_layout.specs.declared.places.Place.TheVariants as places
-use Rattle.ds_make.specs.Items.{number_of, map_taken}
-use Rattle.ds_make.specs.Known.{HasBlock, block-known, first_room-free}
-use Rattle.ds_make.specs.Limits.{after-ok, map_alike}
-use Rattle.ds_make.specs.MakeAsks.{IsMakeChange, HasItem, HasMap, HasWhole}
-use Rattle.ds_make.specs.NewBodies.{begun-is_body, grown-is_body, item-within}
-use Rattle.ds_make.specs.Objects.{CanGrow}
+use Rattle.ds_plans.specs.Items.{number_of, map_taken}
+use Rattle.ds_plans.specs.PlanAsks.{IsPlanChange, HasItem, HasMap, HasWhole}
+use Rattle.ds_make.specs.NewBodies.{begun-is_body}
 use Rattle.ds_make.specs.ObjectWalk.{HasNew, some-there}
-use Rattle.ds_make.specs.Redos.{new_object, body_grown, block_filled, block_alone, pairs_filled, pairs_grown, body_pair, map_pair, sub_pair}
-use Rattle.ds_make.specs.Rooms.{first_room, room_or, room_from}
-use Rattle.ds_make.specs.Wholes.{subs-same, rooms-same, entries-absent}
-use Rattle.ds_make.specs.declared.items.FreeItem.{FreeItem}
+use Rattle.ds_make.specs.Redos.{new_object, pairs_filled, pairs_grown}
+use Rattle.ds_plans.specs.Rooms.{first_room, room_or, room_from}
+use Rattle.ds_plans.specs.declared.items.FreeItem.{FreeItem}
 use Rattle.ds_make.specs.declared.objects.NewObject.{NewObject}
-use Rattle.ds_make.specs.declared.rooms.FreeRoom.{FreeRoom}
+use Rattle.ds_plans.specs.declared.rooms.FreeRoom.{FreeRoom}
 use Rattle.ds_plans.specs.Bodies.{sub_seen}
+use Rattle.ds_plans.specs.Objects.{CanGrow}
+use Rattle.ds_plans.specs.Redos.{body_grown, block_filled, block_alone, body_pair, map_pair, sub_pair}
 use Rattle.ds_plans.proofs.Dirs.{body_in, dir_in}
+use Rattle.ds_plans.proofs.Known.{HasRoom, room-place}
+use Rattle.ds_plans.proofs.Limits.{map_alike}
+use Rattle.ds_plans.proofs.NewBodies.{grown-is_body, item-within}
+use Rattle.ds_plans.proofs.Wholes.{subs-same, rooms-same, entries-absent}
 use Rattle.ds_tree.specs.Nodes.{FileTree}
 use Rattle.ds_tree.specs.declared.calls.CallOf.{CallOf}
 use Rattle.ds_tree.specs.declared.calls.TreeReply.TheVariants.{Made}
-
--- a free room of a directory, whose sub-block was seen
-pub record HasRoom (g : Geom) (seen : SeenValue) (p : Parts) (subs : List ℕ) (free : FreeRoom) : Type 0 where
-  pub place : ℕ
-  pub listed : slice_get subs place ≡ Some free.sub
-  pub has : HasBlock g seen p free.sub free.block
-  pub is_free : slice_get free.block.rooms free.room ≡ Some None
-
-pub room-place : (g : Geom) (seen : SeenValue) (p : Parts) → Reads g (look_of seen) p → (b : Body) (subs : List ℕ) (free : FreeRoom) → room_from g seen p b subs ≡ Ok (Some free) → HasRoom g seen p subs free
-room-place g seen p reads b [] free is = absurd cc
-room-place g seen p reads b (n ∷ subs) free is =
-    let known = after-ok (sub_seen g seen p b n) _ (Some free) is in
-    chosen known.0 (block-known g seen p reads b n known.0 known.1) (first_room 0 known.0.rooms) refl known.2 (room-place g seen p reads b subs free)
-  where
-    chosen : (block : SubBlock) → HasBlock g seen p n block → (r : Option ℕ) → first_room 0 block.rooms ≡ r → room_or n block r (room_from g seen p b subs) ≡ Ok (Some free)
-        → (room_from g seen p b subs ≡ Ok (Some free) → HasRoom g seen p subs free) → HasRoom g seen p (n ∷ subs) free
-    chosen block has None first found later =
-        let rest = later found in
-        record { place = suc rest.place; listed = rest.listed; has = rest.has; is_free = rest.is_free }
-    chosen block has (Some room) first found later =
-        let same : record { sub = n; block = block; room = room } ≡ free = cc in
-        let at = first_room-free 0 block.rooms room first in
-        let here : slice_get block.rooms room ≡ Some None = ap (slice_get block.rooms) (at.1 ∙ (let none : 0 + at.0 ≡ at.0 = omega arith in none)) ∙ at.2 in
-        subst (HasRoom g seen p (n ∷ subs)) same (record { place = 0; listed = refl; has = has; is_free = here })
 
 module _ (g : Geom) (is_geom : IsGeom g) (slot : ℕ) (key : Key) (name : List ℕ) (named : IsName name) (kind : NodeKind) (seen : SeenValue) (p : Parts) (reads : Reads g (look_of seen) p)
     (dir : Body) (whole : HasWhole g seen p key name dir) (item : FreeItem) (has : HasItem g seen p Fd item) (before : Body) (new : HasNew g seen p (number_of g Fd item) before) where
@@ -152,7 +130,7 @@ module _ (g : Geom) (is_geom : IsGeom g) (slot : ℕ) (key : Key) (name : List �
         lacks = record {
           there = (dir_in g seen p key dir image t stands reads agrees whole.has).0;
           is_dir = whole.has.sees.is_kind;
-          absent = subst (λ l. maps.get (entries_of stands.parts l) name ≡ None) subs-are (entries-absent g slot key name kind seen p reads dir whole.has whole.subs whole.lacks image t stands agrees);
+          absent = subst (λ l. maps.get (entries_of stands.parts l) name ≡ None) subs-are (entries-absent g key seen p reads dir whole.has name whole.subs whole.lacks image t stands agrees);
         };
         life = whole.has.sees.life;
         named = named;
@@ -167,12 +145,12 @@ module _ (g : Geom) (is_geom : IsGeom g) (slot : ℕ) (key : Key) (name : List �
       room = free.room;
       before = free.block;
       listed = ap (λ l. slice_get l room.place) (sym subs-are) ∙ room.listed;
-      there = subs-same g slot key name kind seen p reads dir whole.has whole.subs image t stands agrees room.place free.sub room.listed ∙ room.has.there;
+      there = subs-same g key seen p reads dir whole.has whole.subs image t stands agrees room.place free.sub room.listed ∙ room.has.there;
       free = room.is_free;
       filled = refl;
     }
 
-    pub filled-good : IsMakeChange g call seen (pairs_filled g made free) (Made made.entry.key)
+    pub filled-good : IsPlanChange g call seen (pairs_filled g made free) (Made made.entry.key)
     filled-good =
         let c = item.cluster in
         let n = free.sub in
@@ -211,7 +189,7 @@ module _ (g : Geom) (is_geom : IsGeom g) (slot : ℕ) (key : Key) (name : List �
       is_item = refl;
       marks = marks Sb sub has_sub image t stands agrees;
       adds = record {
-        full = ap (λ l. length (used_rooms stands.parts l)) (sym subs-are) ∙ ap (length {A = Entry}) (rooms-same g slot key name kind seen p reads dir whole.has whole.subs image t stands agrees) ∙ full;
+        full = ap (λ l. length (used_rooms stands.parts l)) (sym subs-are) ∙ ap (length {A = Entry}) (rooms-same g key seen p reads dir whole.has whole.subs image t stands agrees) ∙ full;
         is_body = grown-is_body dir n can (omega (arith, n-within, most_items_of g Sb is_geom));
         object = refl;
         kind = refl;
@@ -252,7 +230,7 @@ module _ (g : Geom) (is_geom : IsGeom g) (slot : ℕ) (key : Key) (name : List �
     pairs_by swapped = grown_pairs g swapped item.cluster sub.cluster key.object o n map_sector sub_map_sector dir_sector new_sector block_sector
 
     -- in this order the pairs are good
-    ordered-good : (swapped : Bool) → AreTargets g (targets_of (pairs_by swapped)) → IsMakeChange g call seen (pairs_by swapped) (Made made.entry.key)
+    ordered-good : (swapped : Bool) → AreTargets g (targets_of (pairs_by swapped)) → IsPlanChange g call seen (pairs_by swapped) (Made made.entry.key)
     ordered-good swapped targets = record {
       targets = targets;
       right = λ image t stands agrees large.
@@ -278,15 +256,15 @@ module _ (g : Geom) (is_geom : IsGeom g) (slot : ℕ) (key : Key) (name : List �
         else body_pair g made.body ∷ body_pair g grown ∷ sub_pair g n (block_alone made.entry) ∷ [])) e
         ∙ ap (λ d. map_pair g Fd item ∷ map_pair g Sb sub ∷ body_pair g made.body ∷ (place_sector g (places.Body d), dir_sector) ∷ sub_pair g n (block_alone made.entry) ∷ []) dir-object
 
-    pub grown-good : IsMakeChange g call seen (pairs_grown g dir made sub) (Made made.entry.key)
+    pub grown-good : IsPlanChange g call seen (pairs_grown g dir made sub) (Made made.entry.key)
     grown-good = elim (cases_Bool (nat_lt dir.object o)) [
       | inl below ↦
           let order : key.object < o = subst (λ d. d < o) dir-object (grind (arith, nat_tests, below)) in
-          subst (λ pairs. IsMakeChange g call seen pairs (Made made.entry.key)) (sym (pairs-in false below))
+          subst (λ pairs. IsPlanChange g call seen pairs (Made made.entry.key)) (sym (pairs-in false below))
           (ordered-good false (grown-targets g item.cluster o n has.has.inside o-within n-within sub.cluster key.object has_sub.has.inside whole.has.inside map_sector sub_map_sector dir_sector new_sector block_sector false order))
       | inr past ↦
           let order : o < key.object = above past in
-          subst (λ pairs. IsMakeChange g call seen pairs (Made made.entry.key)) (sym (pairs-in true past))
+          subst (λ pairs. IsPlanChange g call seen pairs (Made made.entry.key)) (sym (pairs-in true past))
           (ordered-good true (grown-targets g item.cluster o n has.has.inside o-within n-within sub.cluster key.object has_sub.has.inside whole.has.inside map_sector sub_map_sector dir_sector new_sector block_sector true order))
     ]
       where

@@ -1,162 +1,24 @@
--- What is known of a directory once it was seen whole.
-use Rattle.std.proofs.Common.{◌≡◌, ℕ, suc, ◌+◌, ◌*◌, ◌<◌, ◌≤◌, ◌==◌, ◌&&◌, Bool, true, false, nat_le, nat_lt, if◌then◌else◌, List, [], ◌∷◌, length, slice_get, Option, None, Some, refl, sym, ap, subst, ◌∙◌, arith, length-take-le, is_some}
-use Rattle.std.specs.Prelude.{Result, Ok, Err, IsSome}
-use Rattle.std.proofs.lemmas.Bool.Decides.{nat_tests}
-use Rattle.ds_base.specs.Geometry.{items_of}
+-- The change is known once its parts are.
+use Rattle.std.proofs.Common.{◌≡◌, ℕ, List, None, refl}
+use Rattle.std.specs.Prelude.{Result, Ok}
 use Rattle.ds_base.specs.declared.geometry.Geom.{Geom}
-use Rattle.ds_base.specs.declared.geometry.Kind.TheVariants.{Fd, Sb}
+use Rattle.ds_base.specs.declared.geometry.Kind.TheVariants.{Sb}
 use Rattle.ds_base.specs.declared.names.Key.{Key}
 use Rattle.ds_base.specs.declared.names.NodeKind.{NodeKind}
-use Rattle.ds_base.specs.declared.names.NodeKind.TheVariants as kinds
-use Rattle.ds_dir.specs.declared.sub_block.Entry.{Entry}
-use Rattle.ds_dir.specs.declared.sub_block.SubBlock.{SubBlock}
-use Rattle.ds_dir.specs.SubBlock.{IsSubBlock}
-use Rattle.ds_fd.specs.Body.{IsBody, most_count}
 use Rattle.ds_fd.specs.declared.body.Body.{Body}
-use Rattle.ds_image.specs.Objects.{subs_by, subs_of}
-use Rattle.ds_image.specs.Parts.{Parts, part_at}
-use Rattle.ds_image.specs.Readings.{Reads}
-use Rattle.ds_image.specs.SeenValues.{SeenValue, has_lock, look_of}
+use Rattle.ds_image.specs.Parts.{Parts}
+use Rattle.ds_image.specs.SeenValues.{SeenValue}
 use Rattle.ds_image.specs.declared.asks.Ask.{Ask}
-use Rattle.ds_image.specs.declared.asks.Ask.TheVariants.{Done}
-use Rattle.ds_image.proofs.Sizes.{body_is}
 use Rattle.ds_jrnl.specs.declared.redo.Redo.{Redo}
-use Rattle.ds_layout.specs.Places.{place_sector}
-use Rattle.ds_layout.specs.declared.places.Place.TheVariants as places
 use Rattle.ds_make.specs.Answers.{object_known, change_known}
-use Rattle.ds_make.specs.Items.{wanted_item}
-use Rattle.ds_make.specs.Limits.{after-ok, part-known, if-ok}
-use Rattle.ds_make.specs.Objects.{CanGrow, IsFreeRoom}
-use Rattle.ds_make.specs.Redos.{pairs_grown, redo_of}
-use Rattle.ds_make.specs.Rooms.{used_count, count_from, count_in, first_room, room_or, room_from, room_in, lacks_by, not_full, entries_before}
-use Rattle.ds_make.specs.declared.items.FreeItem.{FreeItem}
+use Rattle.ds_make.specs.Redos.{pairs_grown}
 use Rattle.ds_make.specs.declared.making.Making.{Making}
 use Rattle.ds_make.specs.declared.objects.NewObject.{NewObject}
-use Rattle.ds_make.specs.declared.rooms.FreeRoom.{FreeRoom}
-use Rattle.ds_plans.specs.Bodies.{part_seen, body_seen, body_alive, body_of_key, dir_by, body_of_dir, dir_of_key, sub_seen}
-use Rattle.ds_plans.specs.Entries.{found_in}
-use Rattle.ds_plans.specs.Steps.{after}
-use Rattle.ds_plans.specs.declared.entries.Found.{Found}
-use Rattle.ds_tree.specs.declared.calls.TreeReply.TheVariants as replies
-
--- Rooms
-
--- a room that is found is free
-pub first_room-free : (from : ℕ) (rooms : List (Option Entry)) (room : ℕ) → first_room from rooms ≡ Some room → (i : ℕ) × (room ≡ from + i) × (slice_get rooms i ≡ Some None)
-first_room-free from [] room is = absurd cc
-first_room-free from (None ∷ rooms) room is = let same : from ≡ room = cc in (0, omega (arith, same), refl)
-first_room-free from (Some e ∷ rooms) room is =
-    let rest = first_room-free (suc from) rooms room is in (suc rest.0, omega (arith, rest.1), rest.2)
-
--- where none is found all are used
-pub first_room-full : (from : ℕ) (rooms : List (Option Entry)) → first_room from rooms ≡ None → used_count rooms ≡ length rooms
-first_room-full from [] is = refl
-first_room-full from (None ∷ rooms) is = absurd cc
-first_room-full from (Some e ∷ rooms) is = ap suc (first_room-full (suc from) rooms is)
-
--- a sub-block that was seen
-pub record HasBlock (g : Geom) (seen : SeenValue) (p : Parts) (n : ℕ) (block : SubBlock) : Type 0 where
-  pub inside : n < items_of g Sb
-  pub read : IsSome (look_of seen (place_sector g (places.SubBlock n)))
-  pub there : part_at p.subs n ≡ Some block
-  pub is_sub : IsSubBlock block
-
-module _ (g : Geom) (seen : SeenValue) (p : Parts) (reads : Reads g (look_of seen) p) where
-  pub block-known : (b : Body) (n : ℕ) (block : SubBlock) → sub_seen g seen p b n ≡ Ok block → HasBlock g seen p n block
-  block-known b n block is =
-      let at = place_sector g (places.SubBlock n) in
-      let test = if-ok (nat_lt n (items_of g Sb)) (part_seen at (look_of seen at) (part_at p.subs n)) _ block is in
-      let inside : n < items_of g Sb = grind (arith, nat_tests, test.0) in
-      let known = part-known at (look_of seen at) (part_at p.subs n) block test.1 in
-      let there = known.2 in
-      record { inside = inside; read = ap is_some known.1; there = there; is_sub = ((reads.subs.each n inside block).0 there).0 }
-
-  -- a free room of a directory
-  pub room-free : (b : Body) (subs : List ℕ) (free : FreeRoom) → room_from g seen p b subs ≡ Ok (Some free) → IsFreeRoom free × (free.sub < items_of g Sb)
-  room-free b [] free is = absurd cc
-  room-free b (n ∷ subs) free is =
-      let known = after-ok (sub_seen g seen p b n) _ (Some free) is in
-      chosen known.0 (block-known b n known.0 known.1) (first_room 0 known.0.rooms) refl known.2 (room-free b subs free)
-    where
-      chosen : (block : SubBlock) → HasBlock g seen p n block → (r : Option ℕ) → first_room 0 block.rooms ≡ r
-          → room_or n block r (room_from g seen p b subs) ≡ Ok (Some free) → (room_from g seen p b subs ≡ Ok (Some free) → IsFreeRoom free × (free.sub < items_of g Sb))
-          → IsFreeRoom free × (free.sub < items_of g Sb)
-      chosen block has None first found later = later found
-      chosen block has (Some room) first found later =
-          let same : record { sub = n; block = block; room = room } ≡ free = cc in
-          let at = first_room-free 0 block.rooms room first in
-          let here : slice_get block.rooms room ≡ Some None = ap (slice_get block.rooms) (at.1 ∙ (let none : 0 + at.0 ≡ at.0 = omega arith in none)) ∙ at.2 in
-          subst (λ (free : FreeRoom). IsFreeRoom free × (free.sub < items_of g Sb)) same (record { is_sub = has.is_sub; is_free = here }, has.inside)
-
-  -- where a directory has no free room, four for each sub-block are used
-  pub rooms-full : (b : Body) (subs : List ℕ) (count total : ℕ) → room_from g seen p b subs ≡ Ok None → count_from g seen p b count subs ≡ Ok total
-      → total ≡ count + 4 * length subs
-  rooms-full b [] count total none counted = let same : count ≡ total = cc in omega (arith, same)
-  rooms-full b (n ∷ subs) count total none counted =
-      let known = after-ok (sub_seen g seen p b n) _ None none in
-      let block = known.0 in
-      let rest : count_from g seen p b (count + used_count block.rooms) subs ≡ Ok total =
-      sym (ap (λ r. after r (λ (block : SubBlock). count_from g seen p b (count + used_count block.rooms) subs)) known.1) ∙ counted in
-      chosen block (block-known b n block known.1) (first_room 0 block.rooms) refl known.2
-      (λ none. rooms-full b subs (count + used_count block.rooms) total none rest)
-    where
-      chosen : (block : SubBlock) → HasBlock g seen p n block → (r : Option ℕ) → first_room 0 block.rooms ≡ r → room_or n block r (room_from g seen p b subs) ≡ Ok None
-          → (room_from g seen p b subs ≡ Ok None → total ≡ count + used_count block.rooms + 4 * length subs) → total ≡ count + 4 * length (n ∷ subs)
-      chosen block has None first found later =
-          omega (arith, later found, first_room-full 0 block.rooms first, has.is_sub.four)
-      chosen block has (Some room) first found later = absurd cc
-
-  -- the body of a directory
-  pub dir-known : (key : Key) (b : Body) → dir_of_key g seen p key ≡ Ok b → (part_at p.bodies key.object ≡ Some b) × (b.kind ≡ Some kinds.Dir) × IsBody b
-  dir-known key b is =
-      let at = place_sector g (places.Body key.object) in
-      let whole = after-ok (body_of_key g seen p key) body_of_dir b is in
-      let inside = if-ok (nat_lt key.object (items_of g Fd)) _ _ whole.0 whole.1 in
-      let held = if-ok (has_lock seen key.object) (after (body_seen g seen p key.object) (body_alive key)) _ whole.0 inside.1 in
-      let read = after-ok (body_seen g seen p key.object) (body_alive key) whole.0 held.1 in
-      let alive = if-ok ((read.0.birth == key.birth) && is_some read.0.kind) (Ok read.0) _ whole.0 read.2 in
-      let one : read.0 ≡ whole.0 = cc in
-      let kind = dir-kind whole.0 whole.0.kind refl b whole.2 in
-      let there : part_at p.bodies key.object ≡ Some b = (part-known at (look_of seen at) (part_at p.bodies key.object) read.0 read.1).2 ∙ ap Some (one ∙ kind.0) in
-      (there, ap (λ (x : Body). x.kind) (sym kind.0) ∙ kind.1, body_is g (look_of seen) p key.object b reads there)
-    where
-      dir-kind : (x : Body) (kind : Option NodeKind) → x.kind ≡ kind → (b : Body) → dir_by x kind ≡ Ok b → (x ≡ b) × (x.kind ≡ Some kinds.Dir)
-      dir-kind x None e b is = absurd cc
-      dir-kind x (Some kinds.File) e b is = absurd cc
-      dir-kind x (Some kinds.Dir) e b is = ((let same : x ≡ b = cc in same), e)
-
-  few-of : (count n : ℕ) → not_full count ≡ Ok n → count < 384
-  few-of count n is = by (nat_le 384 count) refl is
-    where
-      by : (test : Bool) → nat_le 384 count ≡ test → ◌≡◌ {A = Result ℕ Ask} (if test then Err (Done replies.DirFull) else Ok count) (Ok n) → count < 384
-      by true e is = absurd cc
-      by false e is = grind (arith, nat_tests, e)
-
-  -- the entries of a directory that may get one more are counted
-  pub entries-known : (b : Body) (name : List ℕ) (n : ℕ) → entries_before g seen p b name ≡ Ok n
-      → (found_in g seen p b name ≡ Ok None) × ((count : ℕ) × (count_in g seen p b ≡ Ok count) × (count < 384))
-  entries-known b name n is =
-      let whole = after-ok (found_in g seen p b name) _ n is in
-      by whole.0 whole.1 whole.2
-    where
-      by : (found : Option Found) → found_in g seen p b name ≡ Ok found → lacks_by found (after (count_in g seen p b) not_full) ≡ Ok n
-          → (found_in g seen p b name ≡ Ok None) × ((count : ℕ) × (count_in g seen p b ≡ Ok count) × (count < 384))
-      by (Some f) e is = absurd cc
-      by None e is = let counted = after-ok (count_in g seen p b) not_full n is in (e, (counted.0, counted.1, few-of counted.0 n counted.2))
-
-  -- a directory without a free room, which may get an entry, can grow
-  pub grow-known : (key : Key) (b : Body) (name : List ℕ) (n : ℕ) → dir_of_key g seen p key ≡ Ok b → entries_before g seen p b name ≡ Ok n → room_in g seen p b ≡ Ok None → CanGrow b
-  grow-known key b name n is entries none =
-      let dir = dir-known key b is in
-      let counted = (entries-known b name n entries).1 in
-      let subs : subs_of (Some b) ≡ subs_by b (Some kinds.Dir) = ap (subs_by b) dir.1 in
-      let most : b.count ≤ 96 = subst (λ k. b.count ≤ most_count k) dir.1 dir.2.ranges.count_to in
-      let full = rooms-full b (subs_of (Some b)) 0 counted.0 none counted.1 in
-      record {
-        is_body = dir.2;
-        is_dir = dir.1;
-        few = omega (arith, full, counted.2, ap (length {A = ℕ}) subs, length-take-le b.count b.addresses (omega (arith, most, dir.2.widths.address_count)));
-      }
+use Rattle.ds_plans.specs.Bodies.{dir_of_key}
+use Rattle.ds_plans.specs.Items.{wanted_item}
+use Rattle.ds_plans.specs.Redos.{redo_of}
+use Rattle.ds_plans.specs.Rooms.{room_in, entries_before}
+use Rattle.ds_plans.specs.declared.items.FreeItem.{FreeItem}
 
 -- so the change is known once all this is
 pub grown-is : (g : Geom) (slot : ℕ) (seen : SeenValue) (p : Parts) (key : Key) (name : List ℕ) (kind : NodeKind) (dir : Body) (n : ℕ) (new : NewObject) (sub : FreeItem) (redo : Redo)

@@ -21,7 +21,7 @@ use Rattle.ds_changes.proofs.Bits.{bits-at, clear-some}
 use Rattle.ds_changes.proofs.FreeItems.{free-some}
 use Rattle.ds_fd.specs.Body.{most_count}
 use Rattle.ds_fd.specs.declared.body.Body.{Body}
-use Rattle.ds_image.specs.Asking.{Agrees, HasForm, IsFew, IsRight, Reached, makes_object}
+use Rattle.ds_image.specs.Asking.{Agrees, IsFew, Reached, makes_object}
 use Rattle.ds_image.specs.Objects.{subs_by, subs_of, used_rooms, entries_of}
 use Rattle.ds_image.specs.Parts.{Parts}
 use Rattle.ds_image.specs.Planning.{AllAreFew, Asks}
@@ -31,26 +31,24 @@ use Rattle.ds_image.specs.Sound.{StandsFor}
 use Rattle.ds_image.specs.declared.asks.Ask.{Ask}
 use Rattle.ds_image.specs.declared.asks.Ask.TheVariants as asks
 use Rattle.ds_image.proofs.Sizes.{body_is, part_within}
-use Rattle.ds_layout.specs.Places.{clusters_before, place_sector}
+use Rattle.ds_layout.specs.Places.{cluster_lock, clusters_before, place_sector}
 use Rattle.ds_layout.specs.declared.places.Place.TheVariants as places
 use Rattle.ds_make.specs.Answers.{MakeValue, call_of, unused_body, object_known, change_by, change_known, changed, answers_of}
-use Rattle.ds_make.specs.ChangeWalk.{room-place, filled-good, grown-good}
-use Rattle.ds_make.specs.Growing.{few_of}
-use Rattle.ds_make.specs.ItemWalk.{wanted_goes}
-use Rattle.ds_make.specs.Items.{number_of, free_item, wanted_item}
-use Rattle.ds_make.specs.Keeping.{HasSubBlocks, KeepsWhole}
-use Rattle.ds_make.specs.Known.{rooms-full}
-use Rattle.ds_make.specs.Limits.{MayHold, MayRead, map_alike, holds-stay, reads-stay, lock_list, sector_list, in-lock_list, in-sector_list, few_locks, few_sectors}
-use Rattle.ds_make.specs.MakeAsks.{MakeAsks, IsMakeChange, HasItem, HasWhole}
+use Rattle.ds_make.specs.ChangeWalk.{filled-good, grown-good}
+use Rattle.ds_plans.proofs.ItemWalk.{wanted_goes}
+use Rattle.ds_plans.specs.Items.{number_of, free_item, wanted_item}
+use Rattle.ds_plans.specs.Keeping.{KeepsWhole}
+use Rattle.ds_make.specs.Limits.{MayHold, MayRead, the_dir, a_cluster, of_dir, of_cluster, holds-stay, reads-stay, lock_list, sector_list, in-lock_list, in-sector_list, few_locks, few_sectors}
+use Rattle.ds_plans.specs.PlanAsks.{PlanAsks, IsPlanChange, HasItem, HasWhole}
 use Rattle.ds_make.specs.ObjectWalk.{HasNew, some-there, unused_goes}
-use Rattle.ds_make.specs.Objects.{CanGrow}
+use Rattle.ds_plans.specs.Objects.{CanGrow}
 use Rattle.ds_make.specs.Redos.{new_object}
-use Rattle.ds_make.specs.Rooms.{room_in, entries_before}
-use Rattle.ds_make.specs.Wholes.{make-refused, dir-node, entries-count, entries-absent, counts-known, rooms-known, takes, whole_goes, dir_known-goes}
-use Rattle.ds_make.specs.declared.items.FreeItem.{FreeItem}
+use Rattle.ds_plans.specs.Rooms.{room_in, entries_before}
+use Rattle.ds_make.specs.Wholes.{has-key, make-missing, make-no_dir, make-refused}
+use Rattle.ds_plans.specs.declared.items.FreeItem.{FreeItem}
 use Rattle.ds_make.specs.declared.making.Making.{Making}
 use Rattle.ds_make.specs.declared.objects.NewObject.{NewObject}
-use Rattle.ds_make.specs.declared.rooms.FreeRoom.{FreeRoom}
+use Rattle.ds_plans.specs.declared.rooms.FreeRoom.{FreeRoom}
 use Rattle.ds_plans.specs.Bodies.{dir_of_key}
 use Rattle.ds_plans.specs.DirSeen.{HasDir}
 use Rattle.ds_plans.specs.Entries.{found_in}
@@ -58,6 +56,10 @@ use Rattle.ds_plans.specs.Goes.{Goes}
 use Rattle.ds_plans.specs.Locks.{IsAllowed, Needs, NeedsForNew, one_descriptor, one_sub_block, WantsDescriptor, SeesFree, clear_in}
 use Rattle.ds_plans.specs.Steps.{after}
 use Rattle.ds_plans.proofs.Going.{goes-after}
+use Rattle.ds_plans.proofs.Known.{rooms-full, room-place}
+use Rattle.ds_plans.proofs.Limits.{map_alike}
+use Rattle.ds_plans.proofs.PlanLaws.{plan_allowed, plan_few, plan_keeps}
+use Rattle.ds_plans.proofs.Wholes.{dir-node, entries-count, entries-absent, counts-known, rooms-known, takes, whole_goes, dir_known-goes}
 use Rattle.ds_tree.specs.CallNames.{HasNames}
 use Rattle.ds_tree.specs.Counts.{free_of}
 use Rattle.ds_tree.specs.Nodes.{FileTree}
@@ -91,7 +93,17 @@ sum-some f [] i x at = absurd cc
 sum-some f (y ∷ xs) zero x at = let same : y ≡ x = cc in omega (arith, sum_by-cons f y xs, ap f same)
 sum-some f (y ∷ xs) (suc i) x at = omega (arith, sum_by-cons f y xs, sum-some f xs i x at)
 
--- clusters of descriptors and of sub-blocks are few
+-- clusters of descriptors and of sub-blocks may be locked, and their bitmaps be read
+module _ (g : Geom) (slot dir : ℕ) (seen : SeenValue) (p : Parts) (kind : Kind)
+    (small : (c : ℕ) → c < clusters_of g kind → (8 * kind_number kind + c < 16) × (clusters_before g kind + c < 16)) where
+  hold_cluster : (c : ℕ) → c < clusters_of g kind → MayHold g slot dir seen p (cluster_lock kind c)
+  hold_cluster c l =
+      let number : 2048 + (8 * kind_number kind + c) ≡ cluster_lock kind c = omega arith in
+      subst (MayHold g slot dir seen p) number (a_cluster (8 * kind_number kind + c) (small c l).0)
+
+  read_map : (c : ℕ) → c < clusters_of g kind → MayRead g slot dir seen p (place_sector g (places.Bitmap kind c))
+  read_map c l = of_cluster (clusters_before g kind + c) (small c l).1
+
 few-fd : (g : Geom) → IsGeom g → (c : ℕ) → c < clusters_of g Fd → (8 * kind_number Fd + c < 16) × (clusters_before g Fd + c < 16)
 few-fd g is c l = (omega (arith, l, (is (Clusters Fd)).1), omega (arith, l, (is (Clusters Fd)).1))
 
@@ -103,10 +115,10 @@ module _ (g : Geom) (is_geom : IsGeom g) (slot : ℕ) (key : Key) (name : List �
   call = make_call kind key name
 
   abbrev Good : Ask → Type 0
-  Good = MakeAsks g slot call key.object seen p
+  Good = PlanAsks g slot call (MayHold g slot key.object) (MayRead g slot key.object) seen p
 
   abbrev Done_well : Making → Type 0
-  Done_well making = IsMakeChange g call seen making.redo.pairs.items (replies.Made making.key)
+  Done_well making = IsPlanChange g call seen making.redo.pairs.items (replies.Made making.key)
 
   module _ (dir : Body) (whole : HasWhole g seen p key name dir) (found : found_in g seen p dir name ≡ Ok None) where
     abbrev subs : List ℕ
@@ -116,8 +128,8 @@ module _ (g : Geom) (is_geom : IsGeom g) (slot : ℕ) (key : Key) (name : List �
     not-full : (image : List Sector) (t : FileTree) (stands : StandsFor g image t) → Agrees seen image
         → (maps.contains_key (entries_of stands.parts subs) name ≡ false) × (nat_le 384 (maps.len (entries_of stands.parts subs)) ≡ false)
     not-full image t stands agrees =
-        let count = entries-count g slot key name kind seen p reads dir whole.has whole.subs image t stands agrees in (
-          ap is_some (entries-absent g slot key name kind seen p reads dir whole.has whole.subs whole.lacks image t stands agrees),
+        let count = entries-count g key seen p reads dir whole.has whole.subs image t stands agrees in (
+          ap is_some (entries-absent g key seen p reads dir whole.has name whole.subs whole.lacks image t stands agrees),
           grind (arith, nat_tests, count, whole.few),
         )
 
@@ -125,11 +137,11 @@ module _ (g : Geom) (is_geom : IsGeom g) (slot : ℕ) (key : Key) (name : List �
     no_descriptor image t stands agrees none =
         let before = not-full image t stands agrees in
         let empty : (free_of g t Fd == 0) ≡ true = eq-eqb (free_of g t Fd) 0 none in
-        make-refused g kind key name t (entries_of stands.parts subs) (4 * dir.count) (replies.NoSpace Fd) (dir-node g slot key name kind seen p reads dir whole.has image t stands agrees)
+        make-refused g kind key name t (entries_of stands.parts subs) (4 * dir.count) (replies.NoSpace Fd) (dir-node g key seen p reads dir whole.has image t stands agrees)
         (rw (before.0, before.1, empty) refl)
 
     needs_descriptor : NeedsForNew p key name Fd 1
-    needs_descriptor = one_descriptor dir (takes g slot key name kind seen p reads dir whole.has whole)
+    needs_descriptor = one_descriptor dir (takes g key seen p reads dir whole.has name whole)
 
     abbrev Known : NewObject → Type 0
     Known new = (item : FreeItem) × HasItem g seen p Fd item × ((before : Body) × HasNew g seen p (number_of g Fd item) before × (new ≡ new_object item before kind name))
@@ -138,10 +150,11 @@ module _ (g : Geom) (is_geom : IsGeom g) (slot : ℕ) (key : Key) (name : List �
     object_goes =
         let Item : FreeItem → Type 0 = λ item. HasItem g seen p Fd item × (free_item g slot seen p Fd ≡ Ok (Some item)) in
         goes-after Good Item Known (wanted_item g slot seen p Fd) _
-        (wanted_goes g slot call key.object seen p is_geom reads Fd (few-fd g is_geom) (needs-by p kind key name Fd 1 needs_descriptor) no_descriptor)
+        (wanted_goes g slot call (MayHold g slot key.object) (MayRead g slot key.object) seen p is_geom reads Fd (hold_cluster g slot key.object seen p Fd (few-fd g is_geom)) (read_map g slot key.object seen p Fd (few-fd g is_geom))
+        (needs-by p kind key name Fd 1 needs_descriptor) no_descriptor)
         (λ item is.
         goes-after Good (HasNew g seen p (number_of g Fd item)) Known (unused_body g seen p (number_of g Fd item)) _
-        (unused_goes g slot call key.object seen p is_geom reads (makes-by kind key name) (wants-by p kind key name needs_descriptor) item is.0 is.1)
+        (unused_goes g slot call key.object seen p reads (makes-by kind key name) (wants-by p kind key name needs_descriptor) item is.0 is.1)
         (λ before new. (item, is.0, (before, new, refl))))
 
     module _ (item : FreeItem) (has : HasItem g seen p Fd item) (before : Body) (new : HasNew g seen p (number_of g Fd item) before) where
@@ -183,18 +196,19 @@ module _ (g : Geom) (is_geom : IsGeom g) (slot : ℕ) (key : Key) (name : List �
             let refused = not-full image t stands agrees in
             let some : (free_of g t Fd == 0) ≡ false = ne_eqb (free_of g t Fd) 0 (some_descriptor image t stands agrees) in
             let empty : (free_of g t Sb == 0) ≡ true = eq-eqb (free_of g t Sb) 0 out in
-            let count = entries-count g slot key name kind seen p reads dir whole.has whole.subs image t stands agrees in
+            let count = entries-count g key seen p reads dir whole.has whole.subs image t stands agrees in
             let full : is_full (entries_of stands.parts subs) (4 * dir.count) ≡ true = grind (arith, nat_tests, count, filled) in
-            make-refused g kind key name t (entries_of stands.parts subs) (4 * dir.count) (replies.NoSpace Sb) (dir-node g slot key name kind seen p reads dir whole.has image t stands agrees)
+            make-refused g kind key name t (entries_of stands.parts subs) (4 * dir.count) (replies.NoSpace Sb) (dir-node g key seen p reads dir whole.has image t stands agrees)
             (rw (refused.0, refused.1, some, full, empty) refl)
 
         needs_sub_block : NeedsForNew p key name Sb 1
-        needs_sub_block = one_sub_block dir (takes g slot key name kind seen p reads dir whole.has whole) sees_free (omega (arith, filled))
+        needs_sub_block = one_sub_block dir (takes g key seen p reads dir whole.has name whole) sees_free (omega (arith, filled))
 
         grown_goes : Goes Good (change_by g slot seen p dir (new_object item before kind name) None) Done_well
         grown_goes =
             goes-after Good (λ sub. HasItem g seen p Sb sub × (free_item g slot seen p Sb ≡ Ok (Some sub))) Done_well (wanted_item g slot seen p Sb) _
-            (wanted_goes g slot call key.object seen p is_geom reads Sb (few-sb g is_geom) (needs-by p kind key name Sb 1 needs_sub_block) no_sub_block)
+            (wanted_goes g slot call (MayHold g slot key.object) (MayRead g slot key.object) seen p is_geom reads Sb (hold_cluster g slot key.object seen p Sb (few-sb g is_geom)) (read_map g slot key.object seen p Sb (few-sb g is_geom))
+            (needs-by p kind key name Sb 1 needs_sub_block) no_sub_block)
             (λ sub is. grown-good g is_geom slot key name named kind seen p reads dir whole item has before new sub is.0 can_grow filled)
 
       change_goes : (room : Option FreeRoom) → room_in g seen p dir ≡ Ok room → Goes Good (change_by g slot seen p dir (new_object item before kind name) room) Done_well
@@ -212,10 +226,13 @@ module _ (g : Geom) (is_geom : IsGeom g) (slot : ℕ) (key : Key) (name : List �
 
   known_goes : Goes Good (change_known g slot seen p key name kind) Done_well
   known_goes =
-      goes-after Good (HasDir g seen p key) Done_well (dir_of_key g seen p key) _ (dir_known-goes g slot key name kind seen p reads)
+      goes-after Good (HasDir g seen p key) Done_well (dir_of_key g seen p key) _
+      (dir_known-goes g slot call (MayHold g slot key.object) (MayRead g slot key.object) key seen p reads (has-key kind key name) the_dir of_dir (make-missing g kind key name) (make-no_dir g kind key name))
       (λ dir has.
       goes-after Good (λ count. HasWhole g seen p key name dir × (found_in g seen p dir name ≡ Ok None)) Done_well (entries_before g seen p dir name) _
-      (whole_goes g slot key name kind seen p reads dir has)
+      (whole_goes g slot call (MayHold g slot key.object) (MayRead g slot key.object) key name seen p reads dir has (has-key kind key name) the_dir of_dir
+      (λ image t stands agrees entries rooms node present. make-refused g kind key name t entries rooms replies.Exists node (rw present refl))
+      (λ image t stands agrees entries rooms node absent many. make-refused g kind key name t entries rooms replies.DirFull node (rw (absent, many) refl)))
       (λ count is. rest_goes dir is.0 is.1))
 
   settled-good : (r : Result Making Ask) → Goes Good r Done_well → Good (changed r)
@@ -229,83 +246,38 @@ module _ (g : Geom) (is_geom : IsGeom g) (slot : ℕ) (key : Key) (name : List �
 -- The laws
 
 asks_of : (plan : MakeValue) → IsGeom plan.geom → HasNames (call_of plan) → (seen : SeenValue) (p : Parts) → Reads plan.geom (look_of seen) p
-    → MakeAsks plan.geom plan.slot (call_of plan) plan.dir.object seen p (answers_of plan seen p)
+    → PlanAsks plan.geom plan.slot (call_of plan) (MayHold plan.geom plan.slot plan.dir.object) (MayRead plan.geom plan.slot plan.dir.object) seen p (answers_of plan seen p)
 asks_of plan is names seen p reads = make_asks plan.geom is plan.slot plan.dir plan.name (names-by plan.kind plan.dir plan.name names) plan.kind seen p reads
 
--- each answer has its form
-form_of : (g : Geom) (slot : ℕ) (made_by : CallOf Key) (dir : ℕ) (seen : SeenValue) (p : Parts) (ask : Ask) → MakeAsks g slot made_by dir seen p ask → HasForm g made_by seen p ask
-form_of g slot made_by dir seen p (asks.Lock object) is = (is.is_lock, is.free)
-form_of g slot made_by dir seen p (asks.Read at) is = is.readable
-form_of g slot made_by dir seen p (asks.Odd at) is = is.read
-form_of g slot made_by dir seen p (asks.Worn object) is = is
-form_of g slot made_by dir seen p (asks.Done reply) is = is.block
-form_of g slot made_by dir seen p (asks.Change redo reply) is = is.targets
-
--- and is right for each image that has all sub-blocks
-right_of : (g : Geom) (slot : ℕ) (made_by : CallOf Key) (dir : ℕ) (seen : SeenValue) (p : Parts) (ask : Ask) → MakeAsks g slot made_by dir seen p ask
-    → (image : List Sector) (t : FileTree) → StandsFor g image t → Agrees seen image → HasSubBlocks g image → IsRight g made_by seen image t ask
-right_of g slot made_by dir seen p (asks.Lock object) is image t stands agrees large = tt
-right_of g slot made_by dir seen p (asks.Read at) is image t stands agrees large = tt
-right_of g slot made_by dir seen p (asks.Odd at) is image t stands agrees large = is.none image t stands agrees
-right_of g slot made_by dir seen p (asks.Worn object) is image t stands agrees large = tt
-right_of g slot made_by dir seen p (asks.Done reply) is image t stands agrees large = is.does image t stands agrees
-right_of g slot made_by dir seen p (asks.Change redo reply) is image t stands agrees large = is.right image t stands agrees large
-
+-- each answer has its form, and is right for each image that has all sub-blocks
 pub make_keeps : (plan : MakeValue) → IsGeom plan.geom → HasNames (call_of plan) → (seen : SeenValue) (p : Parts) → Reads plan.geom (look_of seen) p
     → KeepsWhole plan.geom (call_of plan) seen p (answers_of plan seen p)
 make_keeps plan is names seen p reads =
-    let good = asks_of plan is names seen p reads in
-    record {
-      form = form_of plan.geom plan.slot (call_of plan) plan.dir.object seen p (answers_of plan seen p) good;
-      right = right_of plan.geom plan.slot (call_of plan) plan.dir.object seen p (answers_of plan seen p) good;
-    }
-
--- only allowed locks are asked for
-allowed_of : (g : Geom) (slot : ℕ) (made_by : CallOf Key) (dir : ℕ) (seen : SeenValue) (p : Parts) (ask : Ask) → MakeAsks g slot made_by dir seen p ask → IsAllowed g slot made_by p ask
-allowed_of g slot made_by dir seen p (asks.Lock object) is = is.allowed
-allowed_of g slot made_by dir seen p (asks.Read at) is = tt
-allowed_of g slot made_by dir seen p (asks.Odd at) is = tt
-allowed_of g slot made_by dir seen p (asks.Worn object) is = tt
-allowed_of g slot made_by dir seen p (asks.Done reply) is = tt
-allowed_of g slot made_by dir seen p (asks.Change redo reply) is = tt
-
-pub allowed_as : (plan : MakeValue) (seen : SeenValue) (p : Parts) (ask : Ask) → ask ≡ answers_of plan seen p → IsGeom plan.geom → IsName plan.name → Reads plan.geom (look_of seen) p
-    → IsAllowed plan.geom plan.slot (call_of plan) p ask
-allowed_as plan seen p ask is geom named reads =
-    subst (IsAllowed plan.geom plan.slot (call_of plan) p) (sym is)
-    (allowed_of plan.geom plan.slot (call_of plan) plan.dir.object seen p (answers_of plan seen p) (asks_of plan geom (name-of plan.kind plan.dir plan.name named) seen p reads))
+    plan_keeps plan.geom plan.slot (call_of plan) (MayHold plan.geom plan.slot plan.dir.object) (MayRead plan.geom plan.slot plan.dir.object) seen p (answers_of plan seen p)
+    (asks_of plan is names seen p reads)
 
 pub keeps_as : (plan : MakeValue) (seen : SeenValue) (p : Parts) (ask : Ask) → ask ≡ answers_of plan seen p → IsGeom plan.geom → IsName plan.name → Reads plan.geom (look_of seen) p
     → KeepsWhole plan.geom (call_of plan) seen p ask
 keeps_as plan seen p ask is geom named reads =
     subst (KeepsWhole plan.geom (call_of plan) seen p) (sym is) (make_keeps plan geom (name-of plan.kind plan.dir plan.name named) seen p reads)
 
+-- only allowed locks are asked for
+pub allowed_as : (plan : MakeValue) (seen : SeenValue) (p : Parts) (ask : Ask) → ask ≡ answers_of plan seen p → IsGeom plan.geom → IsName plan.name → Reads plan.geom (look_of seen) p
+    → IsAllowed plan.geom plan.slot (call_of plan) p ask
+allowed_as plan seen p ask is geom named reads =
+    subst (IsAllowed plan.geom plan.slot (call_of plan) p) (sym is)
+    (plan_allowed plan.geom plan.slot (call_of plan) (MayHold plan.geom plan.slot plan.dir.object) (MayRead plan.geom plan.slot plan.dir.object) seen p (answers_of plan seen p)
+    (asks_of plan geom (name-of plan.kind plan.dir plan.name named) seen p reads))
+
 -- few locks are held, and few sectors read
-lock-asked : (g : Geom) (slot : ℕ) (made_by : CallOf Key) (dir : ℕ) (seen : SeenValue) (p : Parts) (object : ℕ) (ask : Ask) → asks.Lock object ≡ ask → MakeAsks g slot made_by dir seen p ask
-    → (has_lock seen object ≡ false) × MayHold g slot dir seen p object
-lock-asked g slot made_by dir seen p object ask same is =
-    let good : MakeAsks g slot made_by dir seen p (asks.Lock object) = subst (MakeAsks g slot made_by dir seen p) (sym same) is in
-    (good.free, good.one)
-
-read-asked : (g : Geom) (slot : ℕ) (made_by : CallOf Key) (dir : ℕ) (seen : SeenValue) (p : Parts) (at : ℕ) (ask : Ask) → asks.Read at ≡ ask → MakeAsks g slot made_by dir seen p ask
-    → (look_of seen at ≡ None) × MayRead g slot dir seen p at
-read-asked g slot made_by dir seen p at ask same is =
-    let good : MakeAsks g slot made_by dir seen p (asks.Read at) = subst (MakeAsks g slot made_by dir seen p) (sym same) is in
-    (good.readable.unread, good.one)
-
 pub make_few : (plan : MakeValue) → IsGeom plan.geom → HasNames (call_of plan) → AllAreFew plan.geom (answers_of plan)
 make_few plan is names =
     let g = plan.geom in
     let slot = plan.slot in
     let dir = plan.dir.object in
-    let made_by = call_of plan in
-    few_of g (answers_of plan) (MayHold g slot dir) (MayRead g slot dir)
-    (record {
-      locks = λ seen p reads object asked. lock-asked g slot made_by dir seen p object (answers_of plan seen p) asked (asks_of plan is names seen p reads);
-      sectors = λ seen p reads at asked. read-asked g slot made_by dir seen p at (answers_of plan seen p) asked (asks_of plan is names seen p reads);
-      locks_stay = λ seen next p q grows reads reads' object may. holds-stay g slot seen next p q is grows reads reads' dir object may;
-      sectors_stay = λ seen next p q grows reads reads' at may. reads-stay g slot seen next p q is grows reads reads' dir at may;
-    })
+    plan_few g slot (call_of plan) (MayHold g slot dir) (MayRead g slot dir) (answers_of plan) (asks_of plan is names)
+    (λ seen next p q grows reads reads' object may. holds-stay g slot seen next p q is grows reads reads' dir object may)
+    (λ seen next p q grows reads reads' at may. reads-stay g slot seen next p q is grows reads reads' dir at may)
     (lock_list g slot dir) (sector_list g slot dir)
     (λ seen p reads k may. in-lock_list g slot dir seen p k may)
     (λ seen p reads k may. in-sector_list g slot dir seen p k may)

@@ -1,17 +1,10 @@
 pub mod Answers
 pub mod ChangeWalk
-pub mod Clusters
-pub mod Growing
-pub mod Items
-pub mod ItemWalk
-pub mod Keeping
 pub mod Known
 pub mod Laws
 pub mod Limits
-pub mod MakeAsks
 pub mod NewBodies
 pub mod Objects
 pub mod ObjectWalk
 pub mod Redos
-pub mod Rooms
 pub mod Wholes

@@ -6,7 +6,7 @@ use Rattle.std.proofs.lemmas.Bool.Decides.{nat_tests}
 use Rattle.std.proofs.lemmas.List.{get_or-map}
 use Rattle.std.proofs.lemmas.Nat.{div-mul-add, mod-mul-add}
 use Rattle.std.proofs.lemmas.Option.{slice_get_within, get_or_from_slice_get}
-use Rattle.ds_base.specs.Geometry.{IsGeom, items_of, per_cluster}
+use Rattle.ds_base.specs.Geometry.{items_of, per_cluster}
 use Rattle.ds_base.specs.declared.geometry.Geom.{Geom}
 use Rattle.ds_base.specs.declared.geometry.Kind.TheVariants.{Fd}
 use Rattle.ds_base.specs.declared.names.Key.{Key}
@@ -25,18 +25,20 @@ use Rattle.ds_image.proofs.Sizes.{body_is}
 use Rattle.ds_layout.specs.Places.{place_sector}
 use Rattle.ds_layout.specs.declared.places.Place.TheVariants as places
 use Rattle.ds_make.specs.Answers.{unused_by, unused_body}
-use Rattle.ds_make.specs.Items.{free_item, number_of}
-use Rattle.ds_make.specs.Limits.{map_alike, the_new, of_new}
-use Rattle.ds_make.specs.MakeAsks.{MakeAsks, HasItem}
-use Rattle.ds_make.specs.NewBodies.{item-within}
+use Rattle.ds_plans.specs.Items.{free_item, number_of}
+use Rattle.ds_make.specs.Limits.{MayHold, MayRead, the_new, of_new}
+use Rattle.ds_plans.specs.PlanAsks.{PlanAsks, HasItem}
 use Rattle.ds_make.specs.Objects.{CanBegin}
-use Rattle.ds_make.specs.declared.items.FreeItem.{FreeItem}
+use Rattle.ds_plans.specs.declared.items.FreeItem.{FreeItem}
 use Rattle.ds_plans.specs.Bodies.{body_seen}
 use Rattle.ds_plans.specs.Goes.{Goes}
 use Rattle.ds_plans.specs.Locks as locks
 use Rattle.ds_plans.specs.Steps.{after}
+use Rattle.ds_plans.proofs.BodyWalk.{HasBody, body_goes}
 use Rattle.ds_plans.proofs.Dirs.{body_in}
-use Rattle.ds_plans.proofs.Going.{goes-after, goes-if, goes-part}
+use Rattle.ds_plans.proofs.Going.{goes-after, goes-if}
+use Rattle.ds_plans.proofs.Limits.{map_alike}
+use Rattle.ds_plans.proofs.NewBodies.{item-within}
 use Rattle.ds_tree.specs.Nodes.{FileTree}
 use Rattle.ds_tree.specs.declared.calls.CallOf.{CallOf}
 
@@ -55,10 +57,10 @@ pub record HasNew (g : Geom) (seen : SeenValue) (p : Parts) (o : ℕ) (b : Body)
   pub there : part_at p.bodies o ≡ Some b
   pub can : CanBegin o b
 
-module _ (g : Geom) (slot : ℕ) (call : CallOf Key) (dir : ℕ) (seen : SeenValue) (p : Parts) (is_geom : IsGeom g) (reads : Reads g (look_of seen) p) (makes : makes_object call ≡ true)
+module _ (g : Geom) (slot : ℕ) (call : CallOf Key) (dir : ℕ) (seen : SeenValue) (p : Parts) (reads : Reads g (look_of seen) p) (makes : makes_object call ≡ true)
     (wants : locks.WantsDescriptor p call) (item : FreeItem) (has : HasItem g seen p Fd item) (found : free_item g slot seen p Fd ≡ Ok (Some item)) where
   abbrev Good : Ask → Type 0
-  Good = MakeAsks g slot call dir seen p
+  Good = PlanAsks g slot call (MayHold g slot dir) (MayRead g slot dir) seen p
 
   abbrev o : ℕ
   o = number_of g Fd item
@@ -83,29 +85,6 @@ module _ (g : Geom) (slot : ℕ) (call : CallOf Key) (dir : ℕ) (seen : SeenVal
   lock_good : has_lock seen o ≡ false → Good (asks.Lock o)
   lock_good free = record { is_lock = inl o-within; free = free; allowed = locks.of_new o wants clear; one = the_new item found }
 
-  unread_good : has_lock seen o ≡ true → look_of seen at ≡ None → Good (asks.Read at)
-  unread_good held unread = record {
-    readable = record {
-      metadata = record { place = places.Body o; is_place = o-within; here = refl; kept = refl };
-      unread = unread;
-      guarded = λ image t stands agrees. record {
-        object = o;
-        guards = record { parts = stands.parts; reads = stands.reads; place = places.Body o; is_place = o-within; here = refl; guards = refl };
-        held = held;
-      };
-    };
-    one = of_new item found;
-  }
-
-  odd_good : (s : Sector) → look_of seen at ≡ Some s → part_at p.bodies o ≡ None → Good (asks.Odd at)
-  odd_good s there none = record {
-    read = ap is_some there;
-    none = λ image t stands agrees.
-        let same = body_in g seen p o image t stands o-within reads agrees (ap is_some there) in
-        let some : IsSome (part_at stands.parts.bodies o) = stands.sound.bodies o (omega (arith, o-within, stands.reads.bodies.len)) in
-        false≢true (sym (ap is_some (same ∙ none)) ∙ some);
-  }
-
   -- the descriptor's bit is clear, so it is not in use in an image that agrees
   unused-in : (image : List Sector) (t : FileTree) (stands : StandsFor g image t) → Agrees seen image → is_used (part_at stands.parts.bodies o) ≡ false
   unused-in image t stands agrees =
@@ -117,12 +96,12 @@ module _ (g : Geom) (slot : ℕ) (call : CallOf Key) (dir : ℕ) (seen : SeenVal
       let listed : slice_get (map is_used q.bodies) o ≡ Some false = ap (λ l. slice_get l o) (sym stands.sound.used) ∙ bit in
       sym (get_or-map is_used q.bodies o None true (omega (arith, o-within, stands.reads.bodies.len))) ∙ get_or_from_slice_get (map is_used q.bodies) o false true listed
 
-  used_good : (s : Sector) (b : Body) → look_of seen at ≡ Some s → part_at p.bodies o ≡ Some b → is_some b.kind ≡ true → Good (asks.Odd at)
-  used_good s b there is used = record {
-    read = ap is_some there;
+  used_good : (b : Body) → HasBody g seen p o b → is_some b.kind ≡ true → Good (asks.Odd at)
+  used_good b is used = record {
+    read = is.read;
     none = λ image t stands agrees.
-        let same = body_in g seen p o image t stands o-within reads agrees (ap is_some there) in
-        false≢true (sym (sym (ap is_used (same ∙ is)) ∙ unused-in image t stands agrees) ∙ used);
+        let same = body_in g seen p o image t stands o-within reads agrees is.read in
+        false≢true (sym (sym (ap is_used (same ∙ is.there)) ∙ unused-in image t stands agrees) ∙ used);
   }
 
   worn_good : (b : Body) → part_at p.bodies o ≡ Some b → is_some b.kind ≡ false → nat_le (2 ^ 62) b.birth ≡ true → Good (asks.Worn o)
@@ -133,24 +112,23 @@ module _ (g : Geom) (slot : ℕ) (call : CallOf Key) (dir : ℕ) (seen : SeenVal
   -- the body is known, or what is asked for is good
   pub unused_goes : Goes Good (unused_body g seen p o) (HasNew g seen p o)
   unused_goes =
-      let Is : Body → Type 0 = λ b. (s : Sector) × (look_of seen at ≡ Some s) × (part_at p.bodies o ≡ Some b) in
       goes-if Good (HasNew g seen p o) (has_lock seen o) (after (body_seen g seen p o) (unused_by at o)) (Err (asks.Lock o))
       (λ held.
-      goes-after Good Is (HasNew g seen p o) (body_seen g seen p o) (unused_by at o)
-      (goes-part Good Is at (look_of seen at) (part_at p.bodies o) (unread_good held) odd_good (λ s b there is. (s, there, is)))
+      goes-after Good (HasBody g seen p o) (HasNew g seen p o) (body_seen g seen p o) (unused_by at o)
+      (body_goes g slot call (MayHold g slot dir) (MayRead g slot dir) seen p reads o o-within held (of_new item found))
       (λ b is.
       goes-if Good (HasNew g seen p o) (is_some b.kind) (Err (asks.Odd at)) (if nat_le (2 ^ 62) b.birth then Err (asks.Worn o) else Ok b)
-      (used_good is.0 b is.1 is.2)
+      (used_good b is)
       (λ unused.
       goes-if Good (HasNew g seen p o) (nat_le (2 ^ 62) b.birth) (Err (asks.Worn o)) (Ok b)
-      (worn_good b is.2 unused)
+      (worn_good b is.there unused)
       (λ few. record {
         held = held;
-        read = ap is_some is.1;
-        there = is.2;
+        read = is.read;
+        there = is.there;
         can = record {
-          is_body = body_is g (look_of seen) p o b reads is.2;
-          object = ((reads.bodies.each o o-within b).0 is.2).0;
+          is_body = body_is g (look_of seen) p o b reads is.there;
+          object = ((reads.bodies.each o o-within b).0 is.there).0;
           unused = none-there b.kind unused;
           has_birth = grind (arith, nat_tests, few);
         };

@@ -1,15 +1,13 @@
 -- What is known of a new object.
-use Rattle.std.specs.Prelude.{◌≡◌, ℕ, ◌^◌, ◌<◌, slice_get, Some, None}
+use Rattle.std.specs.Prelude.{◌≡◌, ℕ, ◌^◌, ◌<◌, None}
 use Rattle.ds_base.specs.Geometry.{items_of}
 use Rattle.ds_base.specs.declared.geometry.Geom.{Geom}
 use Rattle.ds_base.specs.declared.geometry.Kind.TheVariants.{Fd}
-use Rattle.ds_base.specs.declared.names.NodeKind.TheVariants as kinds
-use Rattle.ds_dir.specs.SubBlock.{IsEntry, IsSubBlock}
+use Rattle.ds_dir.specs.SubBlock.{IsEntry}
 use Rattle.ds_fd.specs.Body.{IsBody}
 use Rattle.ds_fd.specs.declared.body.Body.{Body}
-use Rattle.ds_make.specs.Items.{IsFreeItem}
-use Rattle.ds_make.specs.declared.rooms.FreeRoom.{FreeRoom}
 use Rattle.ds_make.specs.declared.objects.NewObject.{NewObject}
+use Rattle.ds_plans.specs.Items.{IsFreeItem}
 
 -- a body of this descriptor that is not in use and has a birth left
 pub record CanBegin (number : ℕ) (b : Body) : Type 0 where
@@ -24,14 +22,3 @@ pub record IsNewObject (g : Geom) (new : NewObject) : Type 0 where
   pub inside : new.body.object < items_of g Fd
   pub is_body : IsBody new.body
   pub is_entry : IsEntry new.entry
-
--- a directory that can get one sub-block more
-pub record CanGrow (dir : Body) : Type 0 where
-  pub is_body : IsBody dir
-  pub is_dir : dir.kind ≡ Some kinds.Dir
-  pub few : dir.count < 96
-
--- a room of a sub-block that is free
-pub record IsFreeRoom (free : FreeRoom) : Type 0 where
-  pub is_sub : IsSubBlock free.block
-  pub is_free : slice_get free.block.rooms free.room ≡ Some None

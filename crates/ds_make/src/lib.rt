@@ -6,10 +6,8 @@
 //! written. `Make::ask` promises the same for images that have all sub-blocks.
 #![tactic(auto)]
 
-mod items;
 mod making;
 mod objects;
 mod redos;
-mod rooms;
 
 pub use making::Make;

@@ -9,18 +9,16 @@ ghost use Rattle.ds_image.specs.Planning.{Asks};
 ghost use Rattle.ds_image.specs.Readings.{Reads};
 ghost use Rattle.ds_image.specs.SeenValues.{look_of};
 ghost use Rattle.ds_make.specs.Answers.{answers_of, call_of, change_known};
-ghost use Rattle.ds_make.specs.Keeping.{KeepsWhole};
+ghost use Rattle.ds_plans.specs.Keeping.{KeepsWhole};
 ghost use Rattle.ds_plans.specs.Locks.{IsAllowed};
 ghost use Rattle.ds_tree.specs.CallNames.{HasNames};
 
-use crate::items::wanted_item;
 use crate::objects::object_known;
 use crate::redos::{redo_filled, redo_grown};
-use crate::rooms::{entries_before, free_room};
 use ds_base::{Geom, Key, Kind, Name, NodeKind, SlotNo, Word};
 use ds_image::{Ask, Seen};
 use ds_jrnl::Redo;
-use ds_plans::dir_of_key;
+use ds_plans::{dir_of_key, entries_before, free_room, wanted_item};
 use ds_tree::{Call, CallOf, TreeReply};
 use std::marker::Model;
 

@@ -3,21 +3,20 @@ ghost use Rattle.std.specs.Prelude.{◌≡◌, ◌<◌, ◌^◌, IfOk, Some, Non
 ghost use Rattle.ds_base.specs.Geometry.{IsGeom, items_of};
 ghost use Rattle.ds_base.specs.Names.{IsName};
 ghost use Rattle.ds_base.specs.declared.geometry.Kind.TheVariants.{Fd};
-ghost use Rattle.ds_fd.specs.Body.{IsBody, links_of};
+ghost use Rattle.ds_fd.specs.Body.{links_of};
 ghost use Rattle.ds_image.specs.Parts.{Parts};
 ghost use Rattle.ds_image.specs.Readings.{Reads};
 ghost use Rattle.ds_image.specs.SeenValues.{IsSeen, look_of};
 ghost use Rattle.ds_make.specs.Answers.{object_known, unused_body};
 ghost use Rattle.ds_make.specs.Objects.{IsNewObject, CanBegin};
 ghost use Rattle.ds_make.specs.Redos.{begun, new_object};
-ghost use Rattle.ds_plans.specs.Bodies.{body_seen};
 
-use crate::items::{FreeItem, number_of, wanted_item};
 use ds_base::{Geom, Key, Kind, Name, NodeKind, ObjNo, SlotNo};
 use ds_dir::Entry;
 use ds_fd::Body;
 use ds_image::{Ask, Seen};
 use ds_layout::{Place, sector_of};
+use ds_plans::{FreeItem, body_seen, number_of, wanted_item};
 
 /// A new object: its descriptor as a free item, its body, and its entry.
 #[derive(Drop)]
@@ -58,7 +57,7 @@ fn unused_body(geom: &Geom, seen: &Seen, object: ObjNo) -> Result<Body, Ask>
     if !seen.has_lock(object) {
         return Err(Ask::Lock(object));
     }
-    let body = body_read(geom, seen, object)?;
+    let body = body_seen(geom, seen, object)?;
     if body.kind.is_some() {
         return Err(Ask::Odd(sector_of(geom, &Place::Body(object))));
     }
@@ -66,25 +65,6 @@ fn unused_body(geom: &Geom, seen: &Seen, object: ObjNo) -> Result<Body, Ask>
         return Err(Ask::Worn(object));
     }
     Ok(body)
-}
-
-/// What the sector of a descriptor's body spells.
-fn body_read(geom: &Geom, seen: &Seen, object: ObjNo) -> Result<Body, Ask>
-    requires geom { IsGeom geom.now }
-    requires inside { object < items_of geom.now Fd }
-    ensures answer { (p : Parts) → Reads geom.now (look_of seen.now) p
-        → result ≡ body_seen geom.now seen.now p object }
-    ensures is_body { IfOk result IsBody }
-    ensures object { IfOk result (λ body. body.object ≡ object) }
-{
-    let at = sector_of(geom, &Place::Body(object));
-    let Some(sector) = seen.sector(at) else {
-        return Err(Ask::Read(at));
-    };
-    match Body::decode(object, sector) {
-        Some(body) => Ok(body),
-        None => Err(Ask::Odd(at)),
-    }
 }
 
 fn new_object(item: FreeItem, before: &Body, kind: NodeKind, name: &Name) -> NewObject

@@ -1,5 +1,5 @@
 -- A planner whose call reads one directory keeps the law of planners.
-use Rattle.std.proofs.Common.{◌≡◌, ℕ, suc, ◌<◌, ◌≤◌, ◌==◌, ◌||◌, Bool, true, false, nat_eq, if◌then◌else◌, List, [], ◌∷◌, ◌++◌, length, map, Option, None, Some, inl, inr, refl, sym, ap, subst, ◌∙◌, arith, length-append, length-take, ◌⊎◌}
+use Rattle.std.proofs.Common.{◌≡◌, ℕ, suc, ◌<◌, ◌≤◌, ◌==◌, ◌||◌, Bool, true, false, nat_eq, if◌then◌else◌, List, [], ◌∷◌, ◌++◌, length, map, Option, None, Some, inl, inr, refl, sym, ap, subst, ◌∙◌, arith, length-append}
 use Rattle.std.specs.List.{list_any, IsDistinct, Contains}
 use Rattle.std.specs.Option.{option_or}
 use Rattle.std.proofs.lemmas.Bool.{false≢true, cases_Bool}
@@ -13,29 +13,26 @@ use Rattle.ds_base.specs.Geometry.{items_of}
 use Rattle.ds_base.specs.declared.geometry.Geom.{Geom}
 use Rattle.ds_base.specs.declared.geometry.Kind.TheVariants.{Fd}
 use Rattle.ds_base.specs.declared.names.Key.{Key}
-use Rattle.ds_base.specs.declared.names.NodeKind.{NodeKind}
-use Rattle.ds_base.specs.declared.names.NodeKind.TheVariants as kinds
 use Rattle.ds_base.specs.declared.sectors.Sector.{Sector}
-use Rattle.ds_fd.specs.Body.{IsBody, most_count}
 use Rattle.ds_fd.specs.declared.body.Body.{Body}
 use Rattle.ds_image.specs.Asking.{Agrees, HasForm, IsRight, Keeps, Reached, Start, Locked, Given, IsFew}
-use Rattle.ds_image.specs.Looks.{Look}
-use Rattle.ds_image.specs.Objects.{subs_by, subs_of}
+use Rattle.ds_image.specs.Objects.{subs_of}
 use Rattle.ds_image.specs.Parts.{Parts, part_at}
 use Rattle.ds_image.specs.Pending.{Pair}
 use Rattle.ds_image.specs.Planning.{Answers, Asks, AllAreFew}
 use Rattle.ds_image.specs.Readings.{Reads}
-use Rattle.ds_image.specs.SeenValues.{SeenValue, has_lock, sector_in, look_of, with_lock, with_sector}
+use Rattle.ds_image.specs.SeenValues.{SeenValue, has_lock, look_of, with_lock, with_sector}
 use Rattle.ds_image.specs.Sound.{StandsFor}
 use Rattle.ds_image.specs.declared.asks.Ask.{Ask}
 use Rattle.ds_image.specs.declared.asks.Ask.TheVariants as asks
 use Rattle.ds_image.proofs.Seeing.{sector_in-append}
-use Rattle.ds_image.proofs.Sizes.{body_is}
 use Rattle.ds_layout.specs.Places.{place_sector}
 use Rattle.ds_layout.specs.declared.places.Place.TheVariants as places
 use Rattle.ds_plans.specs.DirAsks.{dir_sectors, DirAsks}
 use Rattle.ds_plans.specs.Locks.{MayLock, IsAllowed, keys_of, of_key}
 use Rattle.ds_plans.proofs.Alike.{body_alike, body_unread}
+use Rattle.ds_plans.proofs.Growing.{numbers_read, unread-is_new, any-one, nothing_twice, either}
+use Rattle.ds_plans.proofs.Limits.{few_subs}
 use Rattle.ds_tree.specs.Nodes.{FileTree}
 use Rattle.ds_tree.specs.declared.calls.CallOf.{CallOf}
 
@@ -74,20 +71,6 @@ dir_allowed g slot call dir seen p (asks.Worn object) named is = tt
 dir_allowed g slot call dir seen p (asks.Done reply) named is = tt
 dir_allowed g slot call dir seen p (asks.Change redo reply) named is = tt
 
--- the numbers of the sectors that were read
-abbrev numbers_read : List Pair → List ℕ
-numbers_read = map (λ (pair : Pair). pair.0)
-
-unread-is_new : (pairs : List Pair) (at : ℕ) → sector_in pairs at ≡ None → list_any (nat_eq at) (numbers_read pairs) ≡ false
-unread-is_new [] at none = refl
-unread-is_new (pair ∷ pairs) at none = elim (cases_Bool (pair.0 == at)) [
-  | inl here ↦ let wrong : Some pair.1 ≡ None = sym (ap (λ b. if b then Some pair.1 else sector_in pairs at) here) ∙ none in absurd cc
-  | inr other ↦
-      let rest : sector_in pairs at ≡ None = sym (ap (λ b. if b then Some pair.1 else sector_in pairs at) other) ∙ none in
-      let differ : nat_eq at pair.0 ≡ false = nat_eq_equiv.symm at pair.0 ∙ other in
-      ap (λ b. b || list_any (nat_eq at) (numbers_read pairs)) differ ∙ unread-is_new pairs at rest
-]
-
 or-none : {X : Type 0} (x : Option X) → option_or x None ≡ x
 or-none None = refl
 or-none (Some x) = refl
@@ -96,12 +79,6 @@ look_other : (seen : SeenValue) (at : ℕ) (s : Sector) (k : ℕ) → nat_eq at 
 look_other seen at s k other =
     sector_in-append seen.sectors ((at, s) ∷ []) k
     ∙ ap (λ (b : Bool). option_or (look_of seen k) (if b then Some s else None)) other ∙ or-none (look_of seen k)
-
-any-one : (k at : ℕ) → list_any (nat_eq k) (at ∷ []) ≡ true → k ≡ at
-any-one k at any = elim (cases_Bool (nat_eq k at)) [
-  | inl same ↦ grind (arith, nat_tests, same)
-  | inr other ↦ absurd (false≢true (sym (ap (λ b. b || false) other) ∙ any))
-]
 
 -- a sector of the directory stays one when one more is read
 stays : (g : Geom) (dir : ℕ) (seen : SeenValue) (at : ℕ) (s : Sector) (p q : Parts) (k : ℕ) → dir < items_of g Fd → look_of seen at ≡ None
@@ -141,14 +118,6 @@ last-any x (y ∷ xs) = ap (λ b. (y == x) || b) (last-any x xs) ∙ or-true (y 
 
 more : (xs : List ℕ) (x : ℕ) → length (xs ++ x ∷ []) ≡ suc (length xs)
 more xs x = length-append xs (x ∷ []) ∙ omega arith
-
-nothing_twice : IsDistinct nat_eq []
-unfolding IsDistinct
-nothing_twice = tt
-
-either : (a b : Bool) → (a || b) ≡ true → (a ≡ true) ⊎ (b ≡ true)
-either true b e = inl refl
-either false b e = inr e
 
 module _ (g : Geom) (call : CallOf Key) (dir : ℕ) (answers : Answers)
     (each : (seen : SeenValue) (p : Parts) → Reads g (look_of seen) p → DirAsks g call dir seen p (answers seen p)) where
@@ -190,21 +159,11 @@ module _ (g : Geom) (call : CallOf Key) (dir : ℕ) (answers : Answers)
             ]);
       }
 
-  few_subs-by : (b : Body) (kind : Option NodeKind) → IsBody b → b.kind ≡ kind → length (subs_by b kind) ≤ 96
-  few_subs-by b None is kind = omega arith
-  few_subs-by b (Some kinds.Dir) is kind = let most : b.count ≤ most_count (Some kinds.Dir) = subst (λ k. b.count ≤ most_count k) kind is.ranges.count_to in
-      omega (arith, length-take b.count b.addresses, most)
-  few_subs-by b (Some kinds.File) is kind = omega arith
-
-  few_subs : (look : Look) (p : Parts) (r : Option Body) → Reads g look p → part_at p.bodies dir ≡ r → length (subs_of r) ≤ 96
-  few_subs look p None reads is = omega arith
-  few_subs look p (Some b) reads is = few_subs-by b b.kind (body_is g look p dir b reads is) refl
-
   few_sectors : (seen : SeenValue) (p : Parts) → Reads g (look_of seen) p → IsSmall g dir seen → length seen.sectors ≤ 97
   few_sectors seen p reads is =
       let within = length-le_from_is_member nat_eq_equiv (numbers_read seen.sectors) (dir_sectors g p dir) is.once (is.of_dir p reads) in
       let subs = subs_of (part_at p.bodies dir) in
-      omega (arith, within, length-map seen.sectors (λ (pair : Pair). pair.0), length-map subs (λ n. place_sector g (places.SubBlock n)), few_subs (look_of seen) p (part_at p.bodies dir) reads refl)
+      omega (arith, within, length-map seen.sectors (λ (pair : Pair). pair.0), length-map subs (λ n. place_sector g (places.SubBlock n)), few_subs g (look_of seen) p dir (part_at p.bodies dir) reads refl)
 
   few_by : (seen : SeenValue) (p : Parts) (ask : Ask) → DirAsks g call dir seen p ask → IsSmall g dir seen → length seen.sectors ≤ 97 → IsFew seen ask
   few_by seen p (asks.Lock object) is small sectors = (omega (arith, small.at_first is.2), omega (arith, sectors))

@@ -1,5 +1,15 @@
 pub mod Alike
+pub mod BodyWalk
+pub mod Bitmaps
 pub mod DirLaws
 pub mod Dirs
 pub mod Finding
 pub mod Going
+pub mod Growing
+pub mod ItemWalk
+pub mod Known
+pub mod Limits
+pub mod MapWalk
+pub mod NewBodies
+pub mod PlanLaws
+pub mod Wholes

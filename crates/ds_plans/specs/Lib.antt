@@ -3,5 +3,11 @@ pub mod DirAsks
 pub mod DirSeen
 pub mod Entries
 pub mod Goes
+pub mod Items
+pub mod Keeping
 pub mod Locks
+pub mod Objects
+pub mod PlanAsks
+pub mod Redos
+pub mod Rooms
 pub mod Steps

@@ -65,11 +65,12 @@ fn sub_blocks(geom: &Geom) -> u32
 
 /// What the sector of a descriptor's body spells.
 #[tactic(auto, using(crate::proofs::Alike::body_decoded))]
-fn body_seen(geom: &Geom, seen: &Seen, object: ObjNo) -> Result<Body, Ask>
+pub fn body_seen(geom: &Geom, seen: &Seen, object: ObjNo) -> Result<Body, Ask>
     requires geom { IsGeom geom.now }
     requires inside { object < items_of geom.now Fd }
     ensures answer { (p : Parts) → Reads geom.now (look_of seen.now) p → result ≡ body_seen geom.now seen.now p object }
-    ensures inside { IfOk result (λ body. body.object < items_of geom.now Fd) }
+    ensures is_body { IfOk result IsBody }
+    ensures object { IfOk result (λ body. body.object ≡ object) }
 {
     let at = sector_of(geom, &Place::Body(object));
     let Some(sector) = seen.sector(at) else {

@@ -8,7 +8,8 @@ use Rattle.ds_image.specs.declared.asks.Ask.{Ask}
 use Rattle.ds_image.proofs.Readings.{parts_there}
 use Rattle.ds_make.specs.Answers.{MakeValue, change_known}
 use Rattle.ds_make.specs.declared.making.Making.{Making}
-use Rattle.ds_make.specs.Known.{room-free, grow-known, grown-is}
+use Rattle.ds_make.specs.Known.{grown-is}
+use Rattle.ds_plans.proofs.Known.{room-free, grow-known}
 use Rattle.ds_make.proofs.making.Make.change_known.Goals as goal
 
 pub redo_filled-requires-clause-room : goal.redo_filled-requires-clause-room
