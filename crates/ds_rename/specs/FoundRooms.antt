@@ -1,10 +1,11 @@
 -- The room that is found for a name has the first entry of the name.
-use Rattle.std.proofs.Common.{◌≡◌, ℕ, zero, suc, ◌+◌, Bool, true, false, if◌then◌else◌, List, [], ◌∷◌, ◌++◌, Option, None, Some, inl, inr, refl, sym, ap, subst, ◌∙◌, arith, slice_get}
-use Rattle.std.specs.Prelude.{Result, Ok, Err, bytes_eq, slice_index}
+use Rattle.std.proofs.Common.{◌≡◌, ℕ, suc, ◌+◌, if◌then◌else◌, List, [], ◌∷◌, ◌++◌, Option, None, Some, inl, inr, refl, sym, ap, subst, ◌∙◌, arith, slice_get}
+use Rattle.std.specs.Prelude.{Result, Ok, bytes_eq, slice_index}
 use Rattle.std.specs.List.{filter_map}
 use Rattle.std.proofs.lemmas.Bool.{cases_Bool}
 use Rattle.std.proofs.lemmas.Option.{get_or_from_slice_get}
 use Rattle.std.proofs.lemmas.Slice.Eq.{bytes_eq-Decides}
+use Rattle.ds_base.specs.Geometry.{IsGeom}
 use Rattle.ds_base.specs.declared.geometry.Geom.{Geom}
 use Rattle.ds_dir.specs.declared.sub_block.Entry.{Entry}
 use Rattle.ds_dir.specs.declared.sub_block.SubBlock.{SubBlock}
@@ -12,13 +13,13 @@ use Rattle.ds_fd.specs.declared.body.Body.{Body}
 use Rattle.ds_image.specs.Objects.{subs_of, used_rooms}
 use Rattle.ds_image.specs.Parts.{Parts}
 use Rattle.ds_image.specs.Readings.{Reads}
-use Rattle.ds_image.specs.SeenValues.{SeenValue, look_of}
+use Rattle.ds_image.specs.SeenValues.{SeenValue, IsSeen, look_of}
 use Rattle.ds_image.specs.declared.asks.Ask.{Ask}
+use Rattle.ds_image.proofs.Readings.{parts_there}
 use Rattle.ds_plans.proofs.Known.{HasBlock, block-known}
 use Rattle.ds_plans.proofs.Limits.{after-ok}
 use Rattle.ds_plans.specs.Bodies.{sub_seen}
 use Rattle.ds_plans.specs.Entries.{entry_named, found_among, found_from, found_in}
-use Rattle.ds_plans.specs.Steps.{after}
 use Rattle.ds_plans.specs.declared.entries.Found.{Found}
 use Rattle.ds_plans.proofs.Finding.{none-among, used_seen}
 use Rattle.ds_rename.specs.NamedRooms.{IsNamedRoom, room_found, sub_of, room_by, room_named}
@@ -221,3 +222,7 @@ module _ (g : Geom) (seen : SeenValue) (p : Parts) (reads : Reads g (look_of see
 -- it is a room of a sub-block with an entry
 pub room-is : (g : Geom) (seen : SeenValue) (p : Parts) (b : Body) (name : List ℕ) (from : NamedRoom) → HasFound g seen p b name from → IsNamedRoom from
 room-is g seen p b name from has = record { is_sub = has.has.is_sub; entry = has.entry; used = has.used; key = has.key }
+
+-- whatever was seen has parts
+pub seen-parts : (g : Geom) (seen : SeenValue) → IsGeom g → IsSeen seen → (p : Parts) × Reads g (look_of seen) p
+seen-parts g seen is whole = parts_there g (look_of seen) is whole.blocks

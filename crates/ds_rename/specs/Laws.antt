@@ -1,5 +1,5 @@
 -- The planner of Rename keeps the law of planners.
-use Rattle.std.proofs.Common.{◌≡◌, ℕ, sym, subst, arith}
+use Rattle.std.proofs.Common.{◌≡◌, sym, subst, arith}
 use Rattle.ds_base.specs.Geometry.{IsGeom}
 use Rattle.ds_base.specs.Names.{IsName}
 use Rattle.ds_image.specs.Parts.{Parts}

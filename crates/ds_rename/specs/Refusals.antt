@@ -1,5 +1,5 @@
 -- When a Rename is refused, by the nodes of both directories and by the entry.
-use Rattle.std.proofs.Common.{◌≡◌, ◌≢◌, ℕ, ◌==◌, ◌&&◌, Bool, true, false, not, nat_le, if◌then◌else◌, List, Option, None, Some, refl, sym, ap, subst, ◌∙◌, eq-eqb, ne_eqb, slice_get}
+use Rattle.std.proofs.Common.{◌≡◌, ◌≢◌, ℕ, ◌==◌, ◌&&◌, Bool, true, false, nat_le, List, Option, None, Some, refl, ap, ◌∙◌, eq-eqb, ne_eqb, slice_get}
 use Rattle.std.specs.Prelude.{option_map, is_some}
 use Rattle.std.specs.FinMap as maps
 use Rattle.ds_base.specs.declared.geometry.Geom.{Geom}
@@ -19,7 +19,7 @@ use Rattle.ds_plans.specs.Entries.{entry_named}
 use Rattle.ds_plans.proofs.Dirs.{object_in}
 use Rattle.ds_plans.proofs.Finding.{named-at, named-find}
 use Rattle.ds_tree.specs.Counts.{free_of}
-use Rattle.ds_tree.specs.Nodes.{Entries, Node, Dir, File, Object, FileTree, node_of_key}
+use Rattle.ds_tree.specs.Nodes.{Entries, Dir, File, Object, FileTree, node_of_key}
 use Rattle.ds_tree.specs.Steps.{Does, entry_node, is_dir, is_full, refuses_rename}
 use Rattle.ds_tree.specs.declared.calls.CallOf.{CallOf}
 use Rattle.ds_tree.specs.declared.calls.CallOf.TheVariants as calls

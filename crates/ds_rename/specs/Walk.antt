@@ -1,12 +1,12 @@
 -- Step by step the planner of Rename asks for what it may, until it knows the change.
-use Rattle.std.proofs.Common.{◌≡◌, ◌≢◌, ℕ, ◌+◌, ◌*◌, ◌<◌, ◌≤◌, ◌==◌, Bool, true, false, nat_eq, nat_le, List, [], ◌∷◌, length, Option, None, Some, refl, sym, ap, subst, ◌∙◌, eq-eqb, arith, slice_get, is_some, length-take-le}
+use Rattle.std.proofs.Common.{◌≡◌, ◌≢◌, ℕ, ◌+◌, ◌*◌, ◌≤◌, ◌==◌, true, false, nat_le, List, length, Option, None, Some, refl, sym, ap, subst, ◌∙◌, eq-eqb, arith, is_some, length-take-le}
 use Rattle.std.specs.Prelude.{Result, Ok, Err, option_map, if◌then◌else◌}
 use Rattle.std.specs.FinMap as maps
-use Rattle.std.specs.List.{Contains, list_any}
+use Rattle.std.specs.List.{Contains}
 use Rattle.std.proofs.lemmas.Bool.{false≢true}
 use Rattle.std.proofs.lemmas.Bool.Decides.{nat_tests}
 use Rattle.std.proofs.lemmas.Option.{same_Some}
-use Rattle.ds_base.specs.Geometry.{IsGeom, clusters_of}
+use Rattle.ds_base.specs.Geometry.{IsGeom}
 use Rattle.ds_base.specs.Names.{IsName}
 use Rattle.ds_base.specs.declared.geometry.Geom.{Geom}
 use Rattle.ds_base.specs.declared.geometry.GeomField.TheVariants.{Clusters}
@@ -32,7 +32,7 @@ use Rattle.ds_image.proofs.Sizes.{body_is}
 use Rattle.ds_layout.specs.Places.{place_sector}
 use Rattle.ds_layout.specs.declared.places.Place.TheVariants as places
 use Rattle.ds_plans.specs.Bodies.{dir_of_key}
-use Rattle.ds_plans.specs.DirAsks.{DirAsks, FitsNone, dir_sectors}
+use Rattle.ds_plans.specs.DirAsks.{DirAsks, FitsNone}
 use Rattle.ds_plans.specs.DirSeen.{HasDir, IsFoundIn, said_found, said_entry}
 use Rattle.ds_plans.specs.Entries.{entry_named, found_in}
 use Rattle.ds_plans.specs.Goes.{Goes}
@@ -43,7 +43,6 @@ use Rattle.ds_plans.specs.PlanAsks.{PlanAsks, IsPlanChange, HasItem, HasWhole}
 use Rattle.ds_plans.specs.Rooms.{entries_before, room_in}
 use Rattle.ds_plans.specs.Steps.{after}
 use Rattle.ds_plans.specs.declared.entries.Found.{Found}
-use Rattle.ds_plans.specs.declared.items.FreeItem.{FreeItem}
 use Rattle.ds_plans.specs.declared.rooms.FreeRoom.{FreeRoom}
 use Rattle.ds_plans.proofs.Dirs.{dir_goes_in, dir_in}
 use Rattle.ds_plans.proofs.Finding.{find_goes, named-find}
@@ -56,7 +55,7 @@ use Rattle.ds_rename.specs.Changes.{kept-good, room-odd, moved-good, item-odd, g
 use Rattle.ds_rename.specs.FoundRooms.{HasFound, found-block, found-room}
 use Rattle.ds_rename.specs.Holding.{MayHold, the_dir, the_other, a_cluster, MayRead, of_dir, of_other, of_cluster}
 use Rattle.ds_rename.specs.NamedRooms.{room_found, sub_of, room_by, room_named}
-use Rattle.ds_rename.specs.Redos.{pairs_kept, pairs_moved, pairs_grown}
+use Rattle.ds_rename.specs.Redos.{pairs_moved, pairs_grown}
 use Rattle.ds_rename.specs.Refusals.{HasNamed, entry-in_tree, missing, no_dir, to-missing, to-no_dir, no-entry, crosses, there-inside, there-across, full-across, no-room}
 use Rattle.ds_rename.specs.declared.renaming.Moving.{Moving}
 use Rattle.ds_rename.specs.declared.rooms.NamedRoom.{NamedRoom}

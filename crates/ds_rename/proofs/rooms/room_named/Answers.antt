@@ -5,10 +5,8 @@ use Rattle.std.proofs.lemmas.Option.{slice_get_within}
 use Rattle.ds_base.specs.Geometry.{items_of}
 use Rattle.ds_base.specs.declared.geometry.Kind.TheVariants.{Sb}
 use Rattle.ds_image.specs.Objects.{subs_of}
-use Rattle.ds_image.specs.SeenValues.{look_of}
-use Rattle.ds_image.proofs.Readings.{parts_there}
 use Rattle.ds_plans.specs.Bodies.{sub_seen}
-use Rattle.ds_rename.specs.FoundRooms.{found-within, found-room}
+use Rattle.ds_rename.specs.FoundRooms.{found-within, found-room, seen-parts}
 use Rattle.ds_rename.specs.NamedRooms.{sub_of}
 use Rattle.ds_rename.proofs.rooms.room_named.Goals as goal
 
@@ -17,7 +15,7 @@ bounds-subs_of-found c =
     let g = c.args.geom.now in
     let dir = c.args.dir.now in
     let found = c.in-Some.found in
-    let there = parts_there g (look_of c.args.seen.now) c.requires.geom c.requires.seen.blocks in
+    let there = seen-parts g c.args.seen.now c.requires.geom c.requires.seen in
     let at = found-within g c.args.seen.now there.0 there.1 dir c.args.name.now found (sym (c.find.ensures there.0 there.1) ∙ c.in_ok-found.was ∙ ap Ok c.in-Some.is) in
     omega (arith, slice_get_within (subs_of (Some dir)) found.sub (sub_of dir found) at, ap (length {A = ℕ}) c.subs_of.ensures.subs)
 
@@ -26,7 +24,7 @@ offset_bounds-subs_of-found c =
     let g = c.args.geom.now in
     let dir = c.args.dir.now in
     let found = c.in-Some.found in
-    let there = parts_there g (look_of c.args.seen.now) c.requires.geom c.requires.seen.blocks in
+    let there = seen-parts g c.args.seen.now c.requires.geom c.requires.seen in
     let at = found-within g c.args.seen.now there.0 there.1 dir c.args.name.now found (sym (c.find.ensures there.0 there.1) ∙ c.in_ok-found.was ∙ ap Ok c.in-Some.is) in
     omega (arith, slice_get_within (subs_of (Some dir)) found.sub (sub_of dir found) at, ap (length {A = ℕ}) c.subs_of.ensures.subs, c.subs_of.ensures.few)
 
@@ -36,7 +34,7 @@ returns-clause-is_room c =
     let seen = c.args.seen.now in
     let dir = c.args.dir.now in
     let found = c.in-Some.found in
-    let there = parts_there g (look_of seen) c.requires.geom c.requires.seen.blocks in
+    let there = seen-parts g seen c.requires.geom c.requires.seen in
     let number = ap (λ l. slice_index l found.sub) c.subs_of.ensures.subs in
     let room = found-room g seen there.0 there.1 dir c.args.name.now found c.in_ok-block.block (sym (c.find.ensures there.0 there.1) ∙ c.in_ok-found.was ∙ ap Ok c.in-Some.is)
     (ap (sub_seen g seen there.0 dir) (sym number) ∙ sym (c.sub_block.ensures there.0 there.1) ∙ c.in_ok-block.was) in
@@ -48,7 +46,7 @@ returns-clause-inside c =
     let seen = c.args.seen.now in
     let dir = c.args.dir.now in
     let found = c.in-Some.found in
-    let there = parts_there g (look_of seen) c.requires.geom c.requires.seen.blocks in
+    let there = seen-parts g seen c.requires.geom c.requires.seen in
     let number = ap (λ l. slice_index l found.sub) c.subs_of.ensures.subs in
     let room = found-room g seen there.0 there.1 dir c.args.name.now found c.in_ok-block.block (sym (c.find.ensures there.0 there.1) ∙ c.in_ok-found.was ∙ ap Ok c.in-Some.is)
     (ap (sub_seen g seen there.0 dir) (sym number) ∙ sym (c.sub_block.ensures there.0 there.1) ∙ c.in_ok-block.was) in
