@@ -88,8 +88,8 @@ dir_in g seen p dir b image t stands reads agrees is =
     )
 
 module _ (g : Geom) (call : CallOf Key) (dir : Key) (seen : SeenValue) (p : Parts) (reads : Reads g (look_of seen) p)
-    (missing : (t : FileTree) → node_of_key t dir ≡ None → Does g t call replies.NoObject t)
-    (no_dir : (t : FileTree) (blocks : List ℕ) → node_of_key t dir ≡ Some (File blocks) → Does g t call replies.NotDir t) where
+    (missing : (image : List Sector) (t : FileTree) → StandsFor g image t → Agrees seen image → node_of_key t dir ≡ None → Does g t call replies.NoObject t)
+    (no_dir : (image : List Sector) (t : FileTree) (blocks : List ℕ) → StandsFor g image t → Agrees seen image → node_of_key t dir ≡ Some (File blocks) → Does g t call replies.NotDir t) where
   abbrev Good : Ask → Type 0
   Good = DirAsks g call dir.object seen p
 
@@ -108,7 +108,7 @@ module _ (g : Geom) (call : CallOf Key) (dir : Key) (seen : SeenValue) (p : Part
     does = λ image t stands agrees.
         let none : part_at stands.parts.bodies dir.object ≡ None =
         get_or_past stands.parts.bodies dir.object None (grind (arith, nat_tests, past, stands.reads.bodies.len)) in
-        missing t (ap (named_by dir) (object_in g image t dir.object None stands none) ∙ none-either (0 == dir.birth));
+        missing image t stands agrees (ap (named_by dir) (object_in g image t dir.object None stands none) ∙ none-either (0 == dir.birth));
   }
 
   body_unread : dir.object < items_of g Fd → has_lock seen dir.object ≡ true → look_of seen (place_sector g (places.Body dir.object)) ≡ None
@@ -145,7 +145,7 @@ module _ (g : Geom) (call : CallOf Key) (dir : Key) (seen : SeenValue) (p : Part
     block = tt;
     does = λ image t stands agrees.
         let same = body_in g seen p dir.object image t stands inside reads agrees (some-is (look_of seen (place_sector g (places.Body dir.object))) s there) in
-        missing t (ap (named_by dir) (object_in g image t dir.object (Some b) stands (same ∙ is)) ∙ none-unused stands.parts b (b.birth == dir.birth) b.kind gone);
+        missing image t stands agrees (ap (named_by dir) (object_in g image t dir.object (Some b) stands (same ∙ is)) ∙ none-unused stands.parts b (b.birth == dir.birth) b.kind gone);
   }
 
   body_goes : Goes Good (body_of_key g seen p dir) IsAlive
@@ -178,7 +178,7 @@ module _ (g : Geom) (call : CallOf Key) (dir : Key) (seen : SeenValue) (p : Part
     does = λ image t stands agrees.
         let q = stands.parts in
         let body : part_at q.bodies dir.object ≡ Some b = body_in g seen p dir.object image t stands is.inside reads agrees is.read ∙ is.there in
-        no_dir t (blocks_by q b (Some kinds.File))
+        no_dir image t (blocks_by q b (Some kinds.File)) stands agrees
         (ap (named_by dir) (object_in g image t dir.object (Some b) stands body) ∙ ap (λ test. if test then node_by q b b.kind else None) is.life ∙ ap (node_by q b) kind);
   }
 
@@ -193,5 +193,13 @@ module _ (g : Geom) (call : CallOf Key) (dir : Key) (seen : SeenValue) (p : Part
   }
 
   -- the directory is known, or what is asked for is good
-  pub dir_goes : Goes Good (dir_of_key g seen p dir) (HasDir g seen p dir)
-  dir_goes = goes-after Good IsAlive (HasDir g seen p dir) (body_of_key g seen p dir) body_of_dir body_goes (λ b is. dir_by-goes b b.kind refl is)
+  pub dir_goes_in : Goes Good (dir_of_key g seen p dir) (HasDir g seen p dir)
+  dir_goes_in = goes-after Good IsAlive (HasDir g seen p dir) (body_of_key g seen p dir) body_of_dir body_goes (λ b is. dir_by-goes b b.kind refl is)
+
+-- where a call is refused for its directory in every tree, and not only in those whose image agrees
+pub dir_goes : (g : Geom) (call : CallOf Key) (dir : Key) (seen : SeenValue) (p : Parts) → Reads g (look_of seen) p
+    → ((t : FileTree) → node_of_key t dir ≡ None → Does g t call replies.NoObject t)
+    → ((t : FileTree) (blocks : List ℕ) → node_of_key t dir ≡ Some (File blocks) → Does g t call replies.NotDir t)
+    → Goes (DirAsks g call dir.object seen p) (dir_of_key g seen p dir) (HasDir g seen p dir)
+dir_goes g call dir seen p reads missing no_dir =
+    dir_goes_in g call dir seen p reads (λ image t stands agrees. missing t) (λ image t blocks stands agrees. no_dir t blocks)

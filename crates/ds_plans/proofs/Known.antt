@@ -138,18 +138,22 @@ module _ (g : Geom) (seen : SeenValue) (p : Parts) (reads : Reads g (look_of see
       by None e is = let counted = after-ok (count_in g seen p b) not_full n is in (e, (counted.0, counted.1, few-of counted.0 n counted.2))
 
   -- a directory without a free room, which may get an entry, can grow
+  pub can-grow : (b : Body) (name : List ℕ) (n : ℕ) → IsBody b → b.kind ≡ Some kinds.Dir → entries_before g seen p b name ≡ Ok n → room_in g seen p b ≡ Ok None → CanGrow b
+  can-grow b name n is_body is_dir entries none =
+      let counted = (entries-known b name n entries).1 in
+      let subs : subs_of (Some b) ≡ subs_by b (Some kinds.Dir) = ap (subs_by b) is_dir in
+      let most : b.count ≤ 96 = subst (λ k. b.count ≤ most_count k) is_dir is_body.ranges.count_to in
+      let full = rooms-full b (subs_of (Some b)) 0 counted.0 none counted.1 in
+      record {
+        is_body = is_body;
+        is_dir = is_dir;
+        few = omega (arith, full, counted.2, ap (length {A = ℕ}) subs, length-take-le b.count b.addresses (omega (arith, most, is_body.widths.address_count)));
+      }
+
   pub grow-known : (key : Key) (b : Body) (name : List ℕ) (n : ℕ) → dir_of_key g seen p key ≡ Ok b → entries_before g seen p b name ≡ Ok n → room_in g seen p b ≡ Ok None → CanGrow b
   grow-known key b name n is entries none =
       let dir = dir-known key b is in
-      let counted = (entries-known b name n entries).1 in
-      let subs : subs_of (Some b) ≡ subs_by b (Some kinds.Dir) = ap (subs_by b) dir.1 in
-      let most : b.count ≤ 96 = subst (λ k. b.count ≤ most_count k) dir.1 dir.2.ranges.count_to in
-      let full = rooms-full b (subs_of (Some b)) 0 counted.0 none counted.1 in
-      record {
-        is_body = dir.2;
-        is_dir = dir.1;
-        few = omega (arith, full, counted.2, ap (length {A = ℕ}) subs, length-take-le b.count b.addresses (omega (arith, most, dir.2.widths.address_count)));
-      }
+      can-grow b name n dir.2 dir.1 entries none
 
 -- Free rooms
 

@@ -117,7 +117,7 @@ module _ (g : Geom) (seen : SeenValue) (p : Parts) (reads : Reads g (look_of see
       by block None e is = (e, is)
       by block (Some f) e is = absurd cc
 
-  subs-known : (before : ℕ) (subs : List ℕ) → found_from g seen p b name before subs ≡ Ok None → (i n : ℕ) → slice_get subs i ≡ Some n → (block : SubBlock) × HasSub g seen p n block
+  pub subs-known : (before : ℕ) (subs : List ℕ) → found_from g seen p b name before subs ≡ Ok None → (i n : ℕ) → slice_get subs i ≡ Some n → (block : SubBlock) × HasSub g seen p n block
   subs-known before [] none i n at = absurd cc
   subs-known before (m ∷ subs) none zero n at =
       let split = found-split before m subs none in
@@ -126,7 +126,7 @@ module _ (g : Geom) (seen : SeenValue) (p : Parts) (reads : Reads g (look_of see
       (split.0, subst (λ k. HasSub g seen p k split.0) same (record { inside = has.inside; read = has.read; there = has.there }))
   subs-known before (m ∷ subs) none (suc i) n at = subs-known (suc before) subs (found-split before m subs none).3 i n at
 
-  names-lack : (before : ℕ) (subs : List ℕ) → found_from g seen p b name before subs ≡ Ok None → entry_named (used_rooms p subs) name ≡ None
+  pub names-lack : (before : ℕ) (subs : List ℕ) → found_from g seen p b name before subs ≡ Ok None → entry_named (used_rooms p subs) name ≡ None
   names-lack before [] none = refl
   names-lack before (n ∷ subs) none =
       let split = found-split before n subs none in

@@ -5,7 +5,7 @@ ghost use Rattle.ds_base.specs.declared.geometry.Kind.TheVariants.{Fd, Sb};
 ghost use Rattle.ds_fd.specs.Body.{IsBody};
 ghost use Rattle.ds_image.specs.Parts.{Parts, part_at};
 ghost use Rattle.ds_image.specs.Readings.{Reads};
-ghost use Rattle.ds_image.specs.SeenValues.{look_of};
+ghost use Rattle.ds_image.specs.SeenValues.{IsSeen, look_of};
 ghost use Rattle.ds_plans.specs.Bodies.{body_of_key, dir_of_key, body_seen, body_of_dir, sub_seen, body_alive};
 
 use ds_base::{Geom, Key, NodeKind, ObjNo};
@@ -20,6 +20,8 @@ pub fn body_of_key(geom: &Geom, seen: &Seen, key: &Key) -> Result<Body, Ask>
     requires { IsGeom geom.now }
     ensures answer { (p : Parts) → Reads geom.now (look_of seen.now) p → result ≡ body_of_key geom.now seen.now p key.now }
     ensures inside { IfOk result (λ body. body.object < items_of geom.now Fd) }
+    ensures is_body { IfOk result IsBody }
+    ensures whole { IfOk result (λ _. IsSeen seen.now) }
 {
     if key.object >= descriptors(geom) {
         return Err(Ask::Done(TreeReply::NoObject));
@@ -39,6 +41,9 @@ pub fn dir_of_key(geom: &Geom, seen: &Seen, key: &Key) -> Result<Body, Ask>
     requires { IsGeom geom.now }
     ensures answer { (p : Parts) → Reads geom.now (look_of seen.now) p → result ≡ dir_of_key geom.now seen.now p key.now }
     ensures inside { IfOk result (λ body. body.object < items_of geom.now Fd) }
+    ensures is_body { IfOk result IsBody }
+    ensures is_dir { IfOk result (λ body. body.kind ≡ Some NodeKind.Dir) }
+    ensures whole { IfOk result (λ _. IsSeen seen.now) }
 {
     let body = body_of_key(geom, seen, key)?;
     match body.kind {

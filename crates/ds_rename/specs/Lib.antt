@@ -1,0 +1,10 @@
+pub mod Answers
+pub mod Changes
+pub mod FoundRooms
+pub mod Holding
+pub mod Laws
+pub mod NamedRooms
+pub mod Redos
+pub mod Refusals
+pub mod Targets
+pub mod Walk

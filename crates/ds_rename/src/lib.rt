@@ -1,0 +1,9 @@
+//! The planner of Rename: how a call finds an entry and the room that it gets, lock by lock and sector by sector, and what it
+//! writes.
+#![tactic(auto)]
+
+mod redos;
+mod renaming;
+mod rooms;
+
+pub use renaming::Rename;
