@@ -5,5 +5,7 @@
 mod redos;
 mod renaming;
 mod rooms;
+#[cfg(test)]
+mod tests;
 
 pub use renaming::Rename;
