@@ -1,6 +1,5 @@
 -- What is written to make an object is right.
-use Rattle.std.proofs.Common.{◌≡◌, ℕ, suc, ◌+◌, ◌*◌, ◌<◌, ◌≤◌, Bool, true, false, not, nat_lt, if◌then◌else◌, List, [], ◌∷◌, length, Option, None, Some, inl, inr, refl, sym, ap, subst, ◌∙◌, arith, slice_get}
-use Rattle.std.specs.Prelude.{Ok}
+use Rattle.std.proofs.Common.{◌≡◌, ℕ, ◌*◌, ◌<◌, ◌≤◌, Bool, true, false, not, nat_lt, if◌then◌else◌, List, [], ◌∷◌, length, None, Some, inl, inr, refl, sym, ap, subst, ◌∙◌, arith, slice_get}
 use Rattle.std.specs.FinMap as maps
 use Rattle.std.proofs.lemmas.Bool.{cases_Bool, cases_lt}
 use Rattle.std.proofs.lemmas.Bool.Decides.{nat_tests}
@@ -27,7 +26,6 @@ use Rattle.ds_changes.proofs.StandsGrown.{grown-leaves}
 use Rattle.ds_changes.proofs.Targets.{filled-targets, grown-targets}
 use Rattle.ds_dir.specs.SubBlock.{sub_bytes}
 use Rattle.ds_dir.specs.declared.sub_block.Entry.{Entry}
-use Rattle.ds_dir.specs.declared.sub_block.SubBlock.{SubBlock}
 use Rattle.ds_fd.specs.Body.{body_bytes}
 use Rattle.ds_fd.specs.declared.body.Body.{Body}
 use Rattle.ds_image.specs.Asking.{Agrees, AreTargets, targets_of}
@@ -45,15 +43,13 @@ use Rattle.ds_plans.specs.PlanAsks.{IsPlanChange, HasItem, HasMap, HasWhole}
 use Rattle.ds_make.specs.NewBodies.{begun-is_body}
 use Rattle.ds_make.specs.ObjectWalk.{HasNew, some-there}
 use Rattle.ds_make.specs.Redos.{new_object, pairs_filled, pairs_grown}
-use Rattle.ds_plans.specs.Rooms.{first_room, room_or, room_from}
 use Rattle.ds_plans.specs.declared.items.FreeItem.{FreeItem}
 use Rattle.ds_make.specs.declared.objects.NewObject.{NewObject}
 use Rattle.ds_plans.specs.declared.rooms.FreeRoom.{FreeRoom}
-use Rattle.ds_plans.specs.Bodies.{sub_seen}
 use Rattle.ds_plans.specs.Objects.{CanGrow}
 use Rattle.ds_plans.specs.Redos.{body_grown, block_filled, block_alone, body_pair, map_pair, sub_pair}
 use Rattle.ds_plans.proofs.Dirs.{body_in, dir_in}
-use Rattle.ds_plans.proofs.Known.{HasRoom, room-place}
+use Rattle.ds_plans.proofs.Known.{HasRoom}
 use Rattle.ds_plans.proofs.Limits.{map_alike}
 use Rattle.ds_plans.proofs.NewBodies.{grown-is_body, item-within}
 use Rattle.ds_plans.proofs.Wholes.{subs-same, rooms-same, entries-absent}
@@ -160,7 +156,7 @@ module _ (g : Geom) (is_geom : IsGeom g) (slot : ℕ) (key : Key) (name : List �
         let block_sector : Sector = record { bytes = sub_bytes block } in
         record {
           targets = filled-targets g c o n has.has.inside o-within room.has.inside map_sector new_sector block_sector;
-          right = λ image t stands agrees large.
+          right = λ image t stands agrees.
               let make = ready image t stands agrees in
               let fill = fills image t stands agrees in
               right-change g call seen image t (pairs_filled g made free) (Made made.entry.key)
@@ -233,16 +229,15 @@ module _ (g : Geom) (is_geom : IsGeom g) (slot : ℕ) (key : Key) (name : List �
     ordered-good : (swapped : Bool) → AreTargets g (targets_of (pairs_by swapped)) → IsPlanChange g call seen (pairs_by swapped) (Made made.entry.key)
     ordered-good swapped targets = record {
       targets = targets;
-      right = λ image t stands agrees large.
+      right = λ image t stands agrees.
           let make = ready image t stands agrees in
           let grow = adds image t stands agrees in
-          let inside : place_sector g (places.SubBlock n) < length image = omega (arith, large, n-within) in
           right-change g call seen image t (pairs_by swapped) (Made made.entry.key)
-          (grown-leaves g is_geom image t stands key dir o made.entry made.body item.cluster (map_taken item) n grown sub.cluster (map_taken sub) (block_alone made.entry) make grow inside
+          (grown-leaves g is_geom image t stands key dir o made.entry made.body item.cluster (map_taken item) n grown sub.cluster (map_taken sub) (block_alone made.entry) make grow
           map_sector sub_map_sector dir_sector new_sector block_sector refl refl refl refl refl swapped)
-          (grown-guarded_before g is_geom image t stands key dir o made.entry made.body item.cluster (map_taken item) n grown sub.cluster (map_taken sub) (block_alone made.entry) make grow inside
+          (grown-guarded_before g is_geom image t stands key dir o made.entry made.body item.cluster (map_taken item) n grown sub.cluster (map_taken sub) (block_alone made.entry) make grow
           map_sector sub_map_sector dir_sector new_sector block_sector refl refl refl refl refl (HoldsLock seen) has.has.held has_sub.has.held o-held whole.has.held swapped)
-          (grown-guarded_after g is_geom image t stands key dir o made.entry made.body item.cluster (map_taken item) n grown sub.cluster (map_taken sub) (block_alone made.entry) make grow inside
+          (grown-guarded_after g is_geom image t stands key dir o made.entry made.body item.cluster (map_taken item) n grown sub.cluster (map_taken sub) (block_alone made.entry) make grow
           map_sector sub_map_sector dir_sector new_sector block_sector refl refl refl refl refl (HoldsLock seen) has.has.held has_sub.has.held o-held whole.has.held swapped);
     }
 

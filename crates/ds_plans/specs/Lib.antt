@@ -4,7 +4,6 @@ pub mod DirSeen
 pub mod Entries
 pub mod Goes
 pub mod Items
-pub mod Keeping
 pub mod Locks
 pub mod Objects
 pub mod PlanAsks
