@@ -1,5 +1,5 @@
 -- A logical image in which nothing is found stands for the tree that its parts spell.
-use Rattle.std.proofs.Common.{◌≡◌, ℕ, ◌<◌, true, List, [], ◌∷◌, length, map, slice_get, Some, IsSome, is_some, refl, ap, ◌∙◌, subst, inl, inr}
+use Rattle.std.proofs.Common.{◌≡◌, ℕ, ◌<◌, true, List, [], ◌∷◌, length, map, slice_get, Some, IsSome, is_some, refl, ap, ◌∙◌, subst, inl, inr, arith}
 use Rattle.std.specs.Prelude.{Contains}
 use Rattle.ds_base.specs.Geometry.{items_of}
 use Rattle.ds_base.specs.declared.geometry.Geom.{Geom}
@@ -102,7 +102,7 @@ module _ (g : Geom) (image : List Sector) (p : Parts) (is : IsImage g image) (re
         named = names-owned g p reads.bodies.len clean.naming;
         reached = nothing-lost p lost;
       } in
-      record { parts = p; reads = reads; sound = parts-sound; tree = refl; is_tree = tree-from_rooted g (slice_get image) p reads parts-sound rooted }
+      record { parts = p; whole = omega (arith, is.size); reads = reads; sound = parts-sound; tree = refl; is_tree = tree-from_rooted g (slice_get image) p reads parts-sound rooted }
 
 pub stands-found : (g : Geom) (sectors image : List Sector) (p : Parts) (finds : List Find) → HasNoBad g sectors → IsLogical g sectors image → IsImage g image
     → Reads g (slice_get image) p → AreFoundIn g p finds → finds ≡ [] → StandsForTree g sectors
