@@ -163,7 +163,7 @@ module _ (g : Geom) (is_geom : IsGeom g) (key : Key) (name : List ℕ) (to_key :
         as-called (pairs_kept g from fresh)
         (record {
           targets = kept-targets g n room.has.inside;
-          right = λ image t stands agrees large.
+          right = λ image t stands agrees.
               let rename = ready image t stands agrees in
               right-change g (calls.Rename key old.name to_key fresh) seen image t (pairs_kept g from fresh) (Moved old.key)
               (renamed-leaves g is_geom image t stands key to_key dir old new n block rename sector refl)
@@ -239,7 +239,7 @@ module _ (g : Geom) (is_geom : IsGeom g) (key : Key) (name : List ℕ) (to_key :
       ordered-good : (swapped : Bool) → AreInOrder swapped from.sub free.sub → Changes (crossed-pairs g swapped from.sub free.sub from_sector to_sector)
       ordered-good swapped ordered = record {
         targets = crossed-targets g from.sub free.sub room.has.inside place.has.inside swapped ordered from_sector to_sector;
-        right = λ image t stands agrees large.
+        right = λ image t stands agrees.
             let leave = leaves image t stands agrees in
             let fill = fills image t stands agrees in
             right-change g (calls.Rename key old.name to_key fresh) seen image t (crossed-pairs g swapped from.sub free.sub from_sector to_sector) (Moved old.key)
@@ -326,7 +326,7 @@ module _ (g : Geom) (is_geom : IsGeom g) (key : Key) (name : List ℕ) (to_key :
       grown_ordered-good swapped ordered = record {
         targets = grown-targets g from.sub n room.has.inside n-within sub.cluster to_key.object has_sub.has.inside whole.has.inside swapped ordered
             map_sector body_sector from_sector new_sector;
-        right = λ image t stands agrees large.
+        right = λ image t stands agrees.
             let leave = leaves image t stands agrees in
             let add = adds image t stands agrees in
             right-change g (calls.Rename key old.name to_key fresh) seen image t (pairs_by swapped) (Moved old.key)

@@ -1,5 +1,5 @@
 -- The planner of Rename keeps the law of planners.
-use Rattle.std.proofs.Common.{◌≡◌, sym, subst, arith}
+use Rattle.std.proofs.Common.{◌≡◌, sym, subst}
 use Rattle.ds_base.specs.Geometry.{IsGeom}
 use Rattle.ds_base.specs.Names.{IsName}
 use Rattle.ds_image.specs.Parts.{Parts}
@@ -24,9 +24,8 @@ asks_of plan is named seen p reads = rename_asks plan.geom is plan.slot plan.dir
 
 pub rename_keeps : (plan : RenameValue) → IsGeom plan.geom → HasNames (call_of plan) → AllKeep plan.geom (call_of plan) (answers_of plan)
 rename_keeps plan is names seen p reads =
-    let kept = plan_keeps plan.geom plan.slot (call_of plan) (MayHold plan.dir.object plan.to.object) (MayRead plan.geom plan.dir.object plan.to.object) seen p (answers_of plan seen p)
-    (asks_of plan is names.1 seen p reads) in
-    record { form = kept.form; right = λ image t stands agrees. kept.right image t stands agrees (omega (arith, stands.whole)) }
+    plan_keeps plan.geom plan.slot (call_of plan) (MayHold plan.dir.object plan.to.object) (MayRead plan.geom plan.dir.object plan.to.object) seen p (answers_of plan seen p)
+    (asks_of plan is names.1 seen p reads)
 
 pub rename_few : (plan : RenameValue) → IsGeom plan.geom → HasNames (call_of plan) → AllAreFew plan.geom (answers_of plan)
 rename_few plan is names =
