@@ -78,7 +78,7 @@ mapped-any f (x ∷ xs) (suc i) n at = ap (λ b. nat_eq (f n) (f x) || b) (mappe
 -- Entries by name
 
 -- where no room of a sub-block has the name, the first entry that has it is one behind these rooms
-none-among : (sub room : ℕ) (name : List ℕ) (rooms : List (Option Entry)) (others : List Entry) → found_among sub room name rooms ≡ None
+pub none-among : (sub room : ℕ) (name : List ℕ) (rooms : List (Option Entry)) (others : List Entry) → found_among sub room name rooms ≡ None
     → entry_named (filter_map (λ room. room) rooms ++ others) name ≡ entry_named others name
 none-among sub room name [] others none = refl
 none-among sub room name (None ∷ rooms) others none = none-among sub (suc room) name rooms others none
