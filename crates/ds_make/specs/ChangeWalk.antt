@@ -1,6 +1,5 @@
 -- What is written to make an object is right.
-use Rattle.std.proofs.Common.{◌≡◌, ℕ, suc, ◌+◌, ◌*◌, ◌<◌, ◌≤◌, Bool, true, false, not, nat_lt, if◌then◌else◌, List, [], ◌∷◌, length, Option, None, Some, inl, inr, refl, sym, ap, subst, ◌∙◌, arith, slice_get}
-use Rattle.std.specs.Prelude.{Ok}
+use Rattle.std.proofs.Common.{◌≡◌, ℕ, ◌*◌, ◌<◌, ◌≤◌, Bool, true, false, not, nat_lt, if◌then◌else◌, List, [], ◌∷◌, length, None, Some, inl, inr, refl, sym, ap, subst, ◌∙◌, arith, slice_get}
 use Rattle.std.specs.FinMap as maps
 use Rattle.std.proofs.lemmas.Bool.{cases_Bool, cases_lt}
 use Rattle.std.proofs.lemmas.Bool.Decides.{nat_tests}
@@ -27,7 +26,6 @@ use Rattle.ds_changes.proofs.StandsGrown.{grown-leaves}
 use Rattle.ds_changes.proofs.Targets.{filled-targets, grown-targets}
 use Rattle.ds_dir.specs.SubBlock.{sub_bytes}
 use Rattle.ds_dir.specs.declared.sub_block.Entry.{Entry}
-use Rattle.ds_dir.specs.declared.sub_block.SubBlock.{SubBlock}
 use Rattle.ds_fd.specs.Body.{body_bytes}
 use Rattle.ds_fd.specs.declared.body.Body.{Body}
 use Rattle.ds_image.specs.Asking.{Agrees, AreTargets, targets_of}
@@ -45,15 +43,13 @@ use Rattle.ds_plans.specs.PlanAsks.{IsPlanChange, HasItem, HasMap, HasWhole}
 use Rattle.ds_make.specs.NewBodies.{begun-is_body}
 use Rattle.ds_make.specs.ObjectWalk.{HasNew, some-there}
 use Rattle.ds_make.specs.Redos.{new_object, pairs_filled, pairs_grown}
-use Rattle.ds_plans.specs.Rooms.{first_room, room_or, room_from}
 use Rattle.ds_plans.specs.declared.items.FreeItem.{FreeItem}
 use Rattle.ds_make.specs.declared.objects.NewObject.{NewObject}
 use Rattle.ds_plans.specs.declared.rooms.FreeRoom.{FreeRoom}
-use Rattle.ds_plans.specs.Bodies.{sub_seen}
 use Rattle.ds_plans.specs.Objects.{CanGrow}
 use Rattle.ds_plans.specs.Redos.{body_grown, block_filled, block_alone, body_pair, map_pair, sub_pair}
 use Rattle.ds_plans.proofs.Dirs.{body_in, dir_in}
-use Rattle.ds_plans.proofs.Known.{HasRoom, room-place}
+use Rattle.ds_plans.proofs.Known.{HasRoom}
 use Rattle.ds_plans.proofs.Limits.{map_alike}
 use Rattle.ds_plans.proofs.NewBodies.{grown-is_body, item-within}
 use Rattle.ds_plans.proofs.Wholes.{subs-same, rooms-same, entries-absent}

@@ -1,5 +1,5 @@
 -- The body of a new object can be spelled.
-use Rattle.std.proofs.Common.{◌≡◌, ℕ, zero, suc, ◌+◌, ◌-◌, ◌^◌, ◌<◌, List, drop, replicate, Some, refl, sym, subst, arith}
+use Rattle.std.proofs.Common.{◌≡◌, ℕ, zero, suc, ◌-◌, ◌^◌, ◌<◌, List, drop, replicate, Some, refl, sym, subst, arith}
 use Rattle.std.specs.Prelude.{slice_index}
 use Rattle.ds_base.specs.Geometry.{items_of}
 use Rattle.ds_base.specs.Names.{IsName}
