@@ -2,6 +2,7 @@ pub mod Bodies
 pub mod DirAsks
 pub mod DirSeen
 pub mod Entries
+pub mod Giving
 pub mod Goes
 pub mod Items
 pub mod Locks
