@@ -130,7 +130,7 @@ fn volume(alloc: Global) -> Result<MemLun, Fail> {
 }
 
 /// The logical image, where the device is as large as the volume.
-fn image_of(alloc: Global, lun: &MemLun) -> Result<Image, ImageFault> {
+fn image_of(alloc: Global, lun: &MemLun) -> Result<Image<MemLun>, ImageFault> {
     if SMALL.check().is_err() || lun.len() != total(&SMALL) {
         return Err(ImageFault::NoMemory);
     }
@@ -145,7 +145,7 @@ fn pending_pairs_show_in_the_image(rt: HostRuntime) -> Result<(), Fail> {
     let image = image_of(alloc, &lun)?;
     for (at, byte) in [(77, 100), (80, 101), (79, 79), (81, 81), (69, 69), (83, 83)] {
         assert_eq!(rt;
-            image.sector(at).copied(),
+            image.sector(at),
             Some(filled(byte)),
             "sector {at}"
         );
@@ -158,7 +158,7 @@ fn pending_pairs_show_in_the_image(rt: HostRuntime) -> Result<(), Fail> {
     let image = image_of(alloc, &lun)?;
     for (at, byte) in [(77, 110), (80, 101), (81, 111)] {
         assert_eq!(rt;
-            image.sector(at).copied(),
+            image.sector(at),
             Some(filled(byte)),
             "sector {at}"
         );
