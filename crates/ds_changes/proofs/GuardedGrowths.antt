@@ -40,7 +40,6 @@ use Rattle.ds_changes.proofs.StandsGrown as growings
 module _ (g : Geom) (is : IsGeom g) (image : List Sector) (t : FileTree) (stands : StandsFor g image t)
     (key : Key) (dir : Body) (o : ℕ) (e : Entry) (new : Body) (c : ℕ) (map : Bitmap) (n : ℕ) (grown : Body) (c' : ℕ) (sub_map : Bitmap) (block : SubBlock)
     (make : ReadyToMake g stands.parts key dir o e new c map) (grow : ReadyToGrow g stands.parts dir n e grown c' sub_map block)
-    (in_image : place_sector g (places.SubBlock n) < length image)
     (map_sector sub_map_sector dir_sector new_sector block_sector : Sector)
     (spells_map : map_sector.bytes ≡ bits_bytes map) (spells_sub_map : sub_map_sector.bytes ≡ bits_bytes sub_map)
     (spells_dir : dir_sector.bytes ≡ body_bytes grown) (spells_new : new_sector.bytes ≡ body_bytes new) (spells_block : block_sector.bytes ≡ sub_bytes block)
@@ -49,13 +48,13 @@ module _ (g : Geom) (is : IsGeom g) (image : List Sector) (t : FileTree) (stands
   p = stands.parts
 
   abbrev grown-after : Bool → List Sector
-  grown-after = growings.after g is image t stands key dir o e new c map n grown c' sub_map block make grow in_image map_sector sub_map_sector dir_sector new_sector block_sector spells_map spells_sub_map spells_dir spells_new spells_block
+  grown-after = growings.after g is image t stands key dir o e new c map n grown c' sub_map block make grow map_sector sub_map_sector dir_sector new_sector block_sector spells_map spells_sub_map spells_dir spells_new spells_block
 
   abbrev pairs : Bool → List Pair
   pairs swapped = grown_pairs g swapped c c' key.object o n map_sector sub_map_sector dir_sector new_sector block_sector
 
   sub-within : n < items_of g Sb
-  sub-within = n-within g is image t stands key dir o e new c map n grown c' sub_map block make grow in_image map_sector sub_map_sector dir_sector new_sector block_sector spells_map spells_sub_map spells_dir spells_new spells_block
+  sub-within = n-within g is image t stands key dir o e new c map n grown c' sub_map block make grow map_sector sub_map_sector dir_sector new_sector block_sector spells_map spells_sub_map spells_dir spells_new spells_block
 
   -- all but the sub-block are guarded alike before and after
   grown-guarded : (look : Look) (q : Parts) → Reads g look q → GuardedBy g look Held (place_sector g (places.SubBlock n)) → (swapped : Bool)
@@ -94,9 +93,9 @@ module _ (g : Geom) (is : IsGeom g) (image : List Sector) (t : FileTree) (stands
   -- and after, the directory's
   pub grown-guarded_after : (swapped : Bool) → All (GuardedBy g (slice_get (grown-after swapped)) Held) (targets_of (pairs swapped))
   grown-guarded_after swapped =
-      let q : Parts = growings.parts-after g is image t stands key dir o e new c map n grown c' sub_map block make grow in_image map_sector sub_map_sector dir_sector new_sector block_sector spells_map spells_sub_map spells_dir spells_new spells_block in
-      let reads = grown-reads g is image t stands key dir o e new c map n grown c' sub_map block make grow in_image map_sector sub_map_sector dir_sector new_sector block_sector spells_map spells_sub_map spells_dir spells_new spells_block swapped in
-      let enters = growings.enters g is image t stands key dir o e new c map n grown c' sub_map block make grow in_image map_sector sub_map_sector dir_sector new_sector block_sector spells_map spells_sub_map spells_dir spells_new spells_block in
+      let q : Parts = growings.parts-after g is image t stands key dir o e new c map n grown c' sub_map block make grow map_sector sub_map_sector dir_sector new_sector block_sector spells_map spells_sub_map spells_dir spells_new spells_block in
+      let reads = grown-reads g is image t stands key dir o e new c map n grown c' sub_map block make grow map_sector sub_map_sector dir_sector new_sector block_sector spells_map spells_sub_map spells_dir spells_new spells_block swapped in
+      let enters = growings.enters g is image t stands key dir o e new c map n grown c' sub_map block make grow map_sector sub_map_sector dir_sector new_sector block_sector spells_map spells_sub_map spells_dir spells_new spells_block in
       let sound = entered-sound p q key.object o dir grown new e stands.sound enters in
       let subs = subs-grown g (slice_get image) p stands.reads stands.sound key.object o n c make.item c' grow.item dir grown new e map sub_map block
       make.is_item make.marks grow.is_item grow.marks make.begins make.lacks grow.adds in

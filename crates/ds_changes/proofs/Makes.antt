@@ -1,5 +1,5 @@
 -- Parts of which a directory has an entry more, and the object that it names is new, spell the tree that the call makes.
-use Rattle.std.proofs.Common.{◌≡◌, ◌≢◌, ℕ, ◌+◌, ◌*◌, ◌<◌, ◌≤◌, cond, true, false, List, map, slice_get, Some, None, refl, ap, subst, ◌∙◌, arith}
+use Rattle.std.proofs.Common.{◌≡◌, ◌≢◌, ℕ, ◌+◌, ◌*◌, ◌<◌, ◌≤◌, cond, true, false, List, length, map, slice_get, Some, None, refl, ap, subst, ◌∙◌, arith}
 use Rattle.std.specs.Prelude.{is_some}
 use Rattle.std.specs.Cmp.Lexicographic.{nat_list_cmp_total}
 use Rattle.std.specs.FinMap as maps
@@ -13,6 +13,7 @@ use Rattle.ds_base.specs.declared.sectors.Sector.{Sector}
 use Rattle.ds_dir.specs.declared.sub_block.Entry.{Entry}
 use Rattle.ds_fd.specs.Body.{IsBody, most_count}
 use Rattle.ds_fd.specs.declared.body.Body.{Body}
+use Rattle.ds_layout.specs.Places.{blocks_at}
 use Rattle.ds_tree.specs.Counts.{free_of}
 use Rattle.ds_tree.specs.Nodes.{Entries, Dir, Object, node_of_key}
 use Rattle.ds_tree.specs.Steps.{is_full, rooms_with_one_more, Makes}
@@ -78,11 +79,12 @@ module _ (g : Geom) (image image' : List Sector) (p q : Parts) (reads : Reads g 
         key-node (tree_of p) key dir.birth (ap (λ (x : Object). x.birth) object) life ∙ ap (λ (x : Object). x.node) object
 
     -- so the image stands for what the call makes
-    pub leaves-made : Leaves g (tree_of p) (make_call e.kind key e.name) (Made e.key) image'
-    leaves-made = record {
+    pub leaves-made : blocks_at g ≤ length image' → Leaves g (tree_of p) (make_call e.kind key e.name) (Made e.key) image'
+    leaves-made whole = record {
       u = tree_of q;
       stands = record {
         parts = q;
+        whole = whole;
         reads = reads';
         sound = entered-sound p q key.object o dir dir' new e sound en;
         tree = refl;

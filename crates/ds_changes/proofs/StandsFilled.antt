@@ -24,6 +24,7 @@ use Rattle.ds_image.specs.Objects.{entries_of}
 use Rattle.ds_image.specs.Parts.{Parts}
 use Rattle.ds_image.specs.Readings.{Reads}
 use Rattle.ds_image.specs.Sound.{StandsFor}
+use Rattle.ds_image.proofs.LaidOver.{whole-laid_over}
 use Rattle.ds_image.proofs.Sizes.{body_is}
 use Rattle.ds_changes.specs.Entering.{subs_in, FillsRoom, make_call}
 use Rattle.ds_changes.specs.Making.{ReadyToMake, Leaves}
@@ -86,4 +87,5 @@ module _ (g : Geom) (is : IsGeom g) (image : List Sector) (t : FileTree) (stands
       (body_is g (slice_get image) p key.object dir stands.reads make.lacks.there) make.life make.named
       (subst (IsTree g) stands.tree stands.is_tree)
       (sym (ap (λ b. cond b (4 * dir.count + 4) (4 * dir.count)) not-full))
-      (λ full. absurd (false≢true (sym not-full ∙ full))))
+      (λ full. absurd (false≢true (sym not-full ∙ full)))
+      (whole-laid_over g image (filled_pairs g c o n map_sector new_sector block_sector) stands.whole))

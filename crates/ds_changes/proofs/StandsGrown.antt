@@ -29,6 +29,7 @@ use Rattle.ds_image.specs.Pending.{Pair}
 use Rattle.ds_image.specs.Readings.{Reads}
 use Rattle.ds_image.specs.Sound.{StandsFor}
 use Rattle.ds_image.specs.SoundObjects.{AreNamesApart}
+use Rattle.ds_image.proofs.LaidOver.{whole-laid_over}
 use Rattle.ds_image.proofs.SoundParts.{objects-of}
 use Rattle.ds_changes.specs.Entering.{subs_in, make_call}
 use Rattle.ds_changes.specs.Making.{ReadyToMake, ReadyToGrow, Leaves}
@@ -51,7 +52,6 @@ two-laid true image a b pairs differ = ap (λ xs. laid_over xs pairs) (set_comm 
 module _ (g : Geom) (is : IsGeom g) (image : List Sector) (t : FileTree) (stands : StandsFor g image t)
     (key : Key) (dir : Body) (o : ℕ) (e : Entry) (new : Body) (c : ℕ) (map : Bitmap) (n : ℕ) (grown : Body) (c' : ℕ) (sub_map : Bitmap) (block : SubBlock)
     (make : ReadyToMake g stands.parts key dir o e new c map) (grow : ReadyToGrow g stands.parts dir n e grown c' sub_map block)
-    (in_image : place_sector g (places.SubBlock n) < length image)
     (map_sector sub_map_sector dir_sector new_sector block_sector : Sector)
     (spells_map : map_sector.bytes ≡ bits_bytes map) (spells_sub_map : sub_map_sector.bytes ≡ bits_bytes sub_map)
     (spells_dir : dir_sector.bytes ≡ body_bytes grown) (spells_new : new_sector.bytes ≡ body_bytes new) (spells_block : block_sector.bytes ≡ sub_bytes block) where
@@ -114,7 +114,7 @@ module _ (g : Geom) (is : IsGeom g) (image : List Sector) (t : FileTree) (stands
       (set-bits g image p stands.reads Sb c' grow.item true sub_map grow.marks) spells_sub_map one in
       let three = reads-body g second p2 key.object grown dir_sector is at-dir.0 (omega (arith, at-dir.1, length-second)) grown-object grow.adds.is_body spells_dir two in
       let four = reads-body g third p3 o new new_sector is at-body.0 (omega (arith, at-body.1, length-third)) make.begins.object make.begins.is_body spells_new three in
-      reads-sub g fourth p4 n block block_sector is n-within (omega (arith, in_image, length-fourth))
+      reads-sub g fourth p4 n block block_sector is n-within (omega (arith, n-within, stands.whole, length-fourth))
       (alone-is_sub e block (begun-is_entry p o e new make.begins make.named) grow.adds.alone) spells_block four
 
   bodies-apart : place_sector g (places.Body key.object) ≢ place_sector g (places.Body o)
@@ -151,4 +151,5 @@ module _ (g : Geom) (is : IsGeom g) (image : List Sector) (t : FileTree) (stands
       grow.adds.is_body make.life make.named (subst (IsTree g) stands.tree stands.is_tree)
       (ap (λ count. 4 * count) grow.adds.count ∙ (let more : 4 * (dir.count + 1) ≡ 4 * dir.count + 4 = omega arith in more)
       ∙ sym (ap (λ b. cond b (4 * dir.count + 4) (4 * dir.count)) full))
-      (λ _. sub-free))
+      (λ _. sub-free)
+      (whole-laid_over g image (grown_pairs g swapped c c' key.object o n map_sector sub_map_sector dir_sector new_sector block_sector) stands.whole))

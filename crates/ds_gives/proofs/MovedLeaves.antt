@@ -1,5 +1,5 @@
 -- Parts of which an entry of a file has left its directory for another one spell the tree that the call leaves.
-use Rattle.std.proofs.Common.{◌≡◌, ◌≢◌, ◌+◌, ◌*◌, ◌<◌, ◌≤◌, cond, true, false, List, slice_get, Some, None, refl, ap, subst, ◌∙◌, arith}
+use Rattle.std.proofs.Common.{◌≡◌, ◌≢◌, ◌+◌, ◌*◌, ◌<◌, ◌≤◌, cond, true, false, List, length, slice_get, Some, None, refl, ap, subst, ◌∙◌, arith}
 use Rattle.std.specs.Prelude.{is_some}
 use Rattle.std.specs.Cmp.Lexicographic.{nat_list_cmp_total}
 use Rattle.std.specs.FinMap as maps
@@ -12,6 +12,7 @@ use Rattle.ds_base.specs.declared.sectors.Sector.{Sector}
 use Rattle.ds_dir.specs.declared.sub_block.Entry.{Entry}
 use Rattle.ds_fd.specs.Body.{IsBody, most_count}
 use Rattle.ds_fd.specs.declared.body.Body.{Body}
+use Rattle.ds_layout.specs.Places.{blocks_at}
 use Rattle.ds_tree.specs.Counts.{free_of}
 use Rattle.ds_tree.specs.Nodes.{Entries, Dir, Object, node_at, with_node}
 use Rattle.ds_tree.specs.Steps.{is_dir, is_full, refusal, rooms_with_one_more, Renames}
@@ -92,11 +93,12 @@ module _ (g : Geom) (image' : List Sector) (p q : Parts) (reads' : Reads g (slic
         ∙ ap (λ n. with_node (with_node (tree_of p) key.object (Dir (maps.remove entries e.name) (4 * dir.count))) to.object (Dir (maps.insert to_entries fresh.name e.key.object) n)) rooms)
 
     -- so the image stands for what the call leaves
-    pub leaves-moved : Leaves g (tree_of p) (Rename key e.name to fresh.name) (Moved e.key) image'
-    leaves-moved = record {
+    pub leaves-moved : blocks_at g ≤ length image' → Leaves g (tree_of p) (Rename key e.name to fresh.name) (Moved e.key) image'
+    leaves-moved whole = record {
       u = tree_of q;
       stands = record {
         parts = q;
+        whole = whole;
         reads = reads';
         sound = moved-sound;
         tree = refl;

@@ -31,6 +31,7 @@ use Rattle.ds_image.specs.Parts.{Parts, part_at}
 use Rattle.ds_image.specs.Pending.{Pair}
 use Rattle.ds_image.specs.Readings.{Reads}
 use Rattle.ds_image.specs.Sound.{StandsFor, IsSound, sub_lists}
+use Rattle.ds_image.proofs.LaidOver.{whole-laid_over}
 use Rattle.ds_image.proofs.Sizes.{body_is}
 use Rattle.ds_changes.specs.Entering.{subs_in, FillsRoom}
 use Rattle.ds_changes.specs.Guarded.{GuardedBy}
@@ -120,7 +121,8 @@ module _ (g : Geom) (is : IsGeom g) (image : List Sector) (t : FileTree) (stands
       (leaves-moved g (after swapped) p q (crossed-reads swapped) stands.sound key to dir to_dir to_dir e fresh moves to-body
       ready.life ready.to_life is-entry.is_name ready.is_file (subst (IsTree g) stands.tree stands.is_tree)
       (sym (ap (λ b. cond b (4 * to_dir.count + 4) (4 * to_dir.count)) not-full))
-      (λ full. absurd (false≢true (sym not-full ∙ full))))
+      (λ full. absurd (false≢true (sym not-full ∙ full)))
+      (whole-laid_over g image (crossed-pairs g swapped n m from_sector to_sector) stands.whole))
 
   -- Whoever holds both directories holds the guards of both sub-blocks, before and after.
 

@@ -35,6 +35,7 @@ use Rattle.ds_image.specs.Pending.{Pair}
 use Rattle.ds_image.specs.Readings.{Reads}
 use Rattle.ds_image.specs.Sound.{StandsFor, IsSound, sub_lists}
 use Rattle.ds_image.specs.SoundObjects.{AreNamesApart}
+use Rattle.ds_image.proofs.LaidOver.{whole-laid_over}
 use Rattle.ds_image.proofs.Places.{at-append_right}
 use Rattle.ds_image.proofs.SoundParts.{objects-of}
 use Rattle.ds_changes.specs.Entering.{subs_in}
@@ -68,7 +69,6 @@ crossed_grown-pairs g swapped c r n m map_sector to_body_sector from_sector to_s
 module _ (g : Geom) (is : IsGeom g) (image : List Sector) (t : FileTree) (stands : StandsFor g image t)
     (key to : Key) (dir to_dir : Body) (e fresh : Entry) (n : ℕ) (block : SubBlock) (ready : ReadyToLeave stands.parts key to dir to_dir e fresh n block)
     (m : ℕ) (grown : Body) (c : ℕ) (sub_map : Bitmap) (block' : SubBlock) (add : ReadyToAdd g stands.parts to_dir m fresh grown c sub_map block')
-    (in_image : place_sector g (places.SubBlock m) < length image)
     (map_sector to_body_sector from_sector to_sector : Sector) (spells_map : map_sector.bytes ≡ bits_bytes sub_map) (spells_body : to_body_sector.bytes ≡ body_bytes grown)
     (spells_from : from_sector.bytes ≡ sub_bytes block) (spells_to : to_sector.bytes ≡ sub_bytes block') where
   abbrev p : Parts
@@ -131,7 +131,7 @@ module _ (g : Geom) (is : IsGeom g) (image : List Sector) (t : FileTree) (stands
       let two = reads-body g first p1 r grown to_body_sector is at-body.0 (omega (arith, at-body.1, length-first)) grown-object add.adds.is_body spells_body one in
       let three = reads-sub g second p2 n block from_sector is at-first.0 (omega (arith, at-first.1, length-second))
       (room-is_sub ready.empties.before block ready.empties.room None is-sub tt ready.empties.emptied) spells_from two in
-      reads-sub g third p3 m block' to_sector is m-within (omega (arith, in_image, length-third))
+      reads-sub g third p3 m block' to_sector is m-within (omega (arith, m-within, stands.whole, length-third))
       (alone-is_sub fresh block' (renamed-is_entry e fresh is-entry ready.renamed) add.adds.alone) spells_to three
 
   places-apart : place_sector g (places.SubBlock n) ≢ place_sector g (places.SubBlock m)
@@ -166,7 +166,8 @@ module _ (g : Geom) (is : IsGeom g) (image : List Sector) (t : FileTree) (stands
       ready.life ready.to_life is-entry.is_name ready.is_file (subst (IsTree g) stands.tree stands.is_tree)
       (ap (λ count. 4 * count) add.adds.count ∙ (let more : 4 * (to_dir.count + 1) ≡ 4 * to_dir.count + 4 = omega arith in more)
       ∙ sym (ap (λ b. cond b (4 * to_dir.count + 4) (4 * to_dir.count)) full))
-      (λ _. sub-free))
+      (λ _. sub-free)
+      (whole-laid_over g image (pairs swapped) stands.whole))
 
   after-sound : (swapped : Bool) → IsSound q
   after-sound swapped = moved-sound g (after swapped) p q (crossed_grown-reads swapped) stands.sound key to dir to_dir grown e fresh moves add.adds.is_body

@@ -20,7 +20,7 @@ use Rattle.ds_image.specs.Parts.{Parts}
 use Rattle.ds_image.specs.Pending.{Pair}
 use Rattle.ds_image.specs.Readings.{Reads}
 use Rattle.ds_image.specs.Sound.{StandsFor}
-use Rattle.ds_image.proofs.LaidOver.{length-laid_over, laid_over-append}
+use Rattle.ds_image.proofs.LaidOver.{length-laid_over, laid_over-append, whole-laid_over}
 use Rattle.ds_changes.specs.Entering.{subs_in}
 use Rattle.ds_changes.specs.Making.{Leaves}
 use Rattle.ds_changes.proofs.EnteredTrees.{dir-object}
@@ -113,6 +113,7 @@ module _ (g : Geom) (is : IsGeom g) (image : List Sector) (t : FileTree) (stands
         u = tree_of q;
         stands = record {
           parts = q;
+          whole = whole-laid_over g image (gone-pairs g writes o n body_sector block_sector) stands.whole;
           reads = gone-reads;
           sound = gone-sound g p q key.object dir e old new stands.sound goes tree;
           tree = refl;

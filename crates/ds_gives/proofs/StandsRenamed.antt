@@ -29,6 +29,7 @@ use Rattle.ds_image.specs.Parts.{Parts, part_at}
 use Rattle.ds_image.specs.Pending.{Pair}
 use Rattle.ds_image.specs.Readings.{Reads}
 use Rattle.ds_image.specs.Sound.{StandsFor, IsSound, IsNamedRight, sub_lists}
+use Rattle.ds_image.proofs.LaidOver.{whole-laid_over}
 use Rattle.ds_image.proofs.Sizes.{part_within}
 use Rattle.ds_image.proofs.SoundParts.{objects-of}
 use Rattle.ds_image.proofs.TreeParts.{object-is}
@@ -211,6 +212,7 @@ module _ (g : Geom) (is : IsGeom g) (image : List Sector) (t : FileTree) (stands
         u = tree_of q;
         stands = record {
           parts = q;
+          whole = whole-laid_over g image renamed-pairs stands.whole;
           reads = renamed-reads;
           sound = renamed-sound;
           tree = refl;

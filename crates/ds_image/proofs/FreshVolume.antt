@@ -179,9 +179,13 @@ module _ (g : Geom) (volume : List ℕ) (sectors : List Sector) (is : IsGeom g) 
     ptrs = reading_made (items_of g Pb) (SpellsPtr g front) (λ _. empty_ptr) ptr_spelled;
   }
 
+  front_whole : blocks_at g ≤ length (front_of g sectors)
+  front_whole = omega (arith, length-take-le (blocks_at g) sectors (omega (arith, formatted.size)))
+
   front_stands : StandsFor g (front_of g sectors) (fresh_tree g)
   front_stands = record {
     parts = fresh_parts g;
+    whole = front_whole;
     reads = fresh_reads;
     sound = fresh_sound g is;
     tree = tree_of-fresh g is;

@@ -1,11 +1,13 @@
 -- What sectors hold that pairs were laid over.
-use Rattle.std.proofs.Common.{◌≡◌, ℕ, ◌<◌, ◌==◌, ◌||◌, inl, inr, true, if◌then◌else◌, List, [], ◌∷◌, ◌++◌, length, get_or, slice_get, slice_set, Option, Some, refl, sym, ap, ◌∙◌, length-set, get_or-set_other, set-set, eq-eqb, ne_eqb, arith}
+use Rattle.std.proofs.Common.{◌≡◌, ℕ, ◌<◌, ◌≤◌, ◌==◌, ◌||◌, inl, inr, true, if◌then◌else◌, List, [], ◌∷◌, ◌++◌, length, get_or, slice_get, slice_set, Option, Some, refl, sym, ap, ◌∙◌, length-set, get_or-set_other, set-set, eq-eqb, ne_eqb, arith}
 use Rattle.std.proofs.lemmas.Bool.{false≢true, cases_eq}
 use Rattle.std.proofs.lemmas.Grind.{get_or-set_at}
 use Rattle.std.proofs.lemmas.List.{set_comm}
 use Rattle.std.proofs.lemmas.Option.{slice_get-get_or}
 use Rattle.std.specs.List.{list_any}
+use Rattle.ds_base.specs.declared.geometry.Geom.{Geom}
 use Rattle.ds_base.specs.declared.sectors.Sector.{Sector}
+use Rattle.ds_layout.specs.Places.{blocks_at}
 use Rattle.ds_image.specs.Logical.{laid_over}
 use Rattle.ds_image.specs.Pending.{Pair}
 
@@ -27,6 +29,10 @@ picked (pair ∷ pairs) k there = picked pairs k (if pair.0 == k then Some pair.
 pub length-laid_over : (xs : List Sector) (pairs : List Pair) → length (laid_over xs pairs) ≡ length xs
 length-laid_over xs [] = refl
 length-laid_over xs (pair ∷ pairs) = length-laid_over (slice_set xs pair.0 pair.1) pairs ∙ length-set xs pair.0 pair.1
+
+-- an image that has the sectors of all metadata has them after writes
+pub whole-laid_over : (g : Geom) (image : List Sector) (pairs : List Pair) → blocks_at g ≤ length image → blocks_at g ≤ length (laid_over image pairs)
+whole-laid_over g image pairs whole = omega (arith, whole, length-laid_over image pairs)
 
 -- a sector that pairs were laid over is that of the last pair of its number, or what was there
 pub laid_get : (xs : List Sector) (pairs : List Pair) (k : ℕ) → k < length xs → slice_get (laid_over xs pairs) k ≡ picked pairs k (slice_get xs k)

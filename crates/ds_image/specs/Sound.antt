@@ -1,11 +1,12 @@
 -- For which tree an image stands.
-use Rattle.std.specs.Prelude.{◌≡◌, ℕ, List, map, slice_get, slice_index, Some, IsSome, bytes_eq}
+use Rattle.std.specs.Prelude.{◌≡◌, ℕ, ◌≤◌, List, length, map, slice_get, slice_index, Some, IsSome, bytes_eq}
 use Rattle.std.specs.List.{IsDistinct}
 use Rattle.ds_base.specs.declared.geometry.Geom.{Geom}
 use Rattle.ds_base.specs.declared.geometry.Kind.{Kind}
 use Rattle.ds_base.specs.declared.sectors.Sector.{Sector}
 use Rattle.ds_dir.specs.declared.sub_block.Entry.{Entry}
 use Rattle.ds_fd.specs.declared.body.Body.{Body}
+use Rattle.ds_layout.specs.Places.{blocks_at}
 use Rattle.ds_tree.specs.Nodes.{FileTree}
 use Rattle.ds_tree.specs.WellFormed.{IsTree}
 use Rattle.ds_image.specs.Objects.{is_used, subs_of, ptrs_of, blocks_of, tail_of, used_rooms, tree_of}
@@ -59,6 +60,8 @@ pub record IsSound (p : Parts) : Type 0 where
 -- the image, a list of sectors by number, stands for the tree that its parts spell
 pub record StandsFor (g : Geom) (image : List Sector) (t : FileTree) : Type 0 where
   pub parts : Parts
+  -- the image has the sectors of all bodies, bitmaps, sub-blocks and pointer blocks, also of items that nobody lists
+  pub whole : blocks_at g ≤ length image
   pub reads : Reads g (slice_get image) parts
   pub sound : IsSound parts
   pub tree : t ≡ tree_of parts

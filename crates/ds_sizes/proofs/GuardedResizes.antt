@@ -1,6 +1,6 @@
 -- Whoever holds a file and the clusters of which items are given up or taken holds the guards of all sectors that are written to
 -- resize it, before and after.
-use Rattle.std.proofs.Common.{◌≡◌, ℕ, zero, suc, ◌+◌, ◌*◌, ◌/◌, ◌%◌, ◌<◌, inl, inr, List, [], ◌∷◌, ◌++◌, length, map, slice_get, Some, refl, sym, ap, subst, ◌∙◌, arith}
+use Rattle.std.proofs.Common.{◌≡◌, ℕ, zero, suc, ◌+◌, ◌*◌, ◌/◌, ◌%◌, ◌<◌, inl, inr, List, [], ◌∷◌, ◌++◌, map, slice_get, Some, refl, sym, ap, subst, ◌∙◌, arith}
 use Rattle.std.specs.Prelude.{All}
 use Rattle.std.proofs.lemmas.List.Elements.{All-nil, All-cons}
 use Rattle.ds_base.specs.Geometry.{IsGeom, items_of, per_cluster}
@@ -67,7 +67,6 @@ module _ (g : Geom) (P : ℕ → Type 0) where
 module _ (g : Geom) (is : IsGeom g) (image : List Sector) (t : FileTree) (stands : StandsFor g image t)
     (key : Key) (b b' : Body) (size : ℕ) (added pointers : List ℕ) (first : ℕ) (pb_maps fb_maps : List (ℕ × Bitmap)) (ptrs : List (ℕ × PtrBlock))
     (ready : ReadyToResize g stands.parts key.object b b' size added pointers first pb_maps fb_maps ptrs)
-    (in_image : (i : ℕ) (x : ℕ × PtrBlock) → slice_get ptrs i ≡ Some x → place_sector g (places.PtrBlock x.0) < length image)
     (pairs : List Pair) (are : ArePairsOf g pairs (resize_parts key.object b' pb_maps fb_maps ptrs))
     (Held : ℕ → Type 0) (held_object : Held key.object)
     (held_pointers : (i : ℕ) (m : ℕ × Bitmap) → slice_get pb_maps i ≡ Some m → Held (cluster_lock Pb m.0))
@@ -143,8 +142,8 @@ module _ (g : Geom) (is : IsGeom g) (image : List Sector) (t : FileTree) (stands
 
   pub resized-guarded_after : All (GuardedBy g look' Held) (targets_of pairs)
   resized-guarded_after =
-      let reads = resized-reads g is image t stands key b b' size added pointers first pb_maps fb_maps ptrs ready in_image pairs are in
-      let parts = resizes-parts g is image t stands key b b' size added pointers first pb_maps fb_maps ptrs ready in_image pairs are in
+      let reads = resized-reads g is image t stands key b b' size added pointers first pb_maps fb_maps ptrs ready pairs are in
+      let parts = resizes-parts g is image t stands key b b' size added pointers first pb_maps fb_maps ptrs ready pairs are in
       let sound : IsSound q = resized-sound p q key.object b b' size added pointers parts stands.sound in
       guarded look' q reads (λ i x at.
       let page = ready.pages.each i x at in

@@ -12,6 +12,7 @@ use Rattle.ds_base.specs.declared.geometry.Kind.TheVariants.{Pb, Fb}
 use Rattle.ds_base.specs.declared.names.Key.{Key}
 use Rattle.ds_base.specs.declared.sectors.Sector.{Sector}
 use Rattle.ds_fd.specs.declared.body.Body.{Body}
+use Rattle.ds_layout.specs.Places.{blocks_at}
 use Rattle.ds_tree.proofs.StepKeeps.{step-keeps}
 use Rattle.ds_tree.specs.Counts.{pointer_blocks, free_of}
 use Rattle.ds_tree.specs.Nodes.{File, Object, FileTree, unborn, node_at, node_of_key, all_blocks, with_node}
@@ -146,11 +147,12 @@ module _ (g : Geom) (image image' : List Sector) (p q : Parts) (reads : Reads g 
         (key-node t key b.birth (ap (λ (x : Object). x.birth) object) life ∙ ap (λ (x : Object). x.node) object) granted resizes
 
     -- so the image stands for what the call makes
-    pub leaves-resized : Leaves g t (Resize key size) (Sized size) image'
-    leaves-resized = record {
+    pub leaves-resized : blocks_at g ≤ length image' → Leaves g t (Resize key size) (Sized size) image'
+    leaves-resized whole = record {
       u = tree_of q;
       stands = record {
         parts = q;
+        whole = whole;
         reads = reads';
         sound = resized-sound p q key.object b b' size added pointers re sound;
         tree = refl;

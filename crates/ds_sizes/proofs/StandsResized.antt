@@ -1,5 +1,5 @@
 -- An image in which a file was given another size stands for the tree that the call makes.
-use Rattle.std.proofs.Common.{◌≡◌, ℕ, zero, suc, ◌+◌, ◌-◌, ◌<◌, ◌≤◌, inl, inr, List, [], ◌∷◌, ◌++◌, length, map, take, slice_get, slice_set, Some, refl, sym, ap, subst, ◌∙◌, length-append, arith}
+use Rattle.std.proofs.Common.{◌≡◌, ℕ, zero, suc, ◌+◌, ◌-◌, ◌≤◌, inl, inr, List, [], ◌∷◌, ◌++◌, length, map, take, slice_get, slice_set, Some, refl, sym, ap, subst, ◌∙◌, length-append, arith}
 use Rattle.std.proofs.lemmas.List.{length-take}
 use Rattle.ds_base.specs.Geometry.{IsGeom}
 use Rattle.ds_base.specs.declared.geometry.Geom.{Geom}
@@ -14,10 +14,9 @@ use Rattle.ds_image.specs.Parts.{Parts, AllSpelled, maps_of}
 use Rattle.ds_image.specs.Pending.{Pair}
 use Rattle.ds_image.specs.Readings.{Reads}
 use Rattle.ds_image.specs.Sound.{StandsFor}
+use Rattle.ds_image.proofs.LaidOver.{whole-laid_over}
 use Rattle.ds_image.proofs.Places.{at-append}
 use Rattle.ds_image.proofs.SoundParts.{each_kind}
-use Rattle.ds_layout.specs.Places.{place_sector}
-use Rattle.ds_layout.specs.declared.places.Place.TheVariants as places
 use Rattle.ds_ptr.specs.declared.ptr_block.PtrBlock.{PtrBlock}
 use Rattle.ds_tree.specs.Nodes.{FileTree}
 use Rattle.ds_tree.specs.WellFormed.{IsTree}
@@ -30,6 +29,7 @@ use Rattle.ds_sizes.specs.Ready.{ReadyToResize, resize_parts}
 use Rattle.ds_sizes.specs.Resizing.{ResizesParts, blocks_after}
 use Rattle.ds_sizes.specs.Written.{Written, MapPart, BodyPart, PtrPart, with_parts, put_all, ArePairsOf, CanWrite, CanWriteAll}
 use Rattle.ds_sizes.proofs.MarkedClusters.{marked-is_bits, clusters-remarked}
+use Rattle.ds_sizes.proofs.PointerSectors.{pointers-in_image}
 use Rattle.ds_sizes.proofs.PutAll.{put-spelled}
 use Rattle.ds_sizes.proofs.Resizes.{leaves-resized}
 use Rattle.ds_sizes.proofs.SpelledBlocks.{size-is}
@@ -99,7 +99,6 @@ can-first g image x xs one rest (suc i) part at = rest i part at
 module _ (g : Geom) (is : IsGeom g) (image : List Sector) (t : FileTree) (stands : StandsFor g image t)
     (key : Key) (b b' : Body) (size : ℕ) (added pointers : List ℕ) (first : ℕ) (pb_maps fb_maps : List (ℕ × Bitmap)) (ptrs : List (ℕ × PtrBlock))
     (ready : ReadyToResize g stands.parts key.object b b' size added pointers first pb_maps fb_maps ptrs)
-    (in_image : (i : ℕ) (x : ℕ × PtrBlock) → slice_get ptrs i ≡ Some x → place_sector g (places.PtrBlock x.0) < length image)
     (pairs : List Pair) (are : ArePairsOf g pairs (resize_parts key.object b' pb_maps fb_maps ptrs)) where
   abbrev p : Parts
   p = stands.parts
@@ -130,10 +129,8 @@ module _ (g : Geom) (is : IsGeom g) (image : List Sector) (t : FileTree) (stands
       (can-first g image (BodyPart key.object b') rest (record { is = (at-body.0, object-is, ready.body.is_body); in_image = at-body.1 })
       (can-mapped g image (λ (x : ℕ × PtrBlock). PtrPart x.0 x.1) ptrs (λ i x at.
       let page = ready.pages.each i x at in
-      record {
-        is = (pointer-within g look p stands.reads stands.sound key.object b b' size pointers ready.body ready.lists ready.pointers_free page.place x.0 page.listed, page.is_block);
-        in_image = in_image i x at;
-      }))))
+      let within = pointer-within g look p stands.reads stands.sound key.object b b' size pointers ready.body ready.lists ready.pointers_free page.place x.0 page.listed in
+      record { is = (within, page.is_block); in_image = pointers-in_image g image stands.whole x.0 within }))))
 
   -- the parts that the image then spells
   pub resized-reads : Reads g (slice_get (laid_over image pairs)) parts-after
@@ -175,4 +172,5 @@ module _ (g : Geom) (is : IsGeom g) (image : List Sector) (t : FileTree) (stands
   resized-leaves life near =
       subst (λ u. Leaves g u (Resize key size) (Sized size) (laid_over image pairs)) (sym stands.tree)
       (leaves-resized g image (laid_over image pairs) p parts-after stands.reads resized-reads stands.sound key b b' size added pointers resizes-parts life near
-      (subst (IsTree g) stands.tree stands.is_tree))
+      (subst (IsTree g) stands.tree stands.is_tree)
+      (whole-laid_over g image pairs stands.whole))
