@@ -19,12 +19,12 @@ loop-index-preserved c =
     past_rest p b c.pointer_block-last.result c.rest-past.result.now c.pointer_block-last.ensures (c.rest-past.ensures ∙ ap (λ xs. drop (b.count % 128) xs) c.addresses_in.ensures) in
     let one : c.note_address.new.report ≡ c.loop-index.report ++ address_at g p c.args.object b i =
     c.in_ok-note_address.ensures
-    ∙ ap (λ block. c.loop-index.report ++ find_if (is_bad_number g b b.kind block c.rest-past.result.now i) (Address c.args.object i)) c.next_block.ensures
+    ∙ ap (λ block. c.loop-index.report ++ find_if (is_bad_number g b b.kind block c.rest-past.result.now i) (Address c.args.object i)) c.next_block-block.ensures
     ∙ ap (λ xs. c.loop-index.report ++ find_if (is_bad_number g b b.kind (pointer_block p b (i / 128)) xs i) (Address c.args.object i)) past
     ∙ ap (λ bad. c.loop-index.report ++ find_if bad (Address c.args.object i)) (bad_number g p b b.kind i) in
     record {
       noted = row_step c.args.report.now c.loop-index.report c.note_address.new.report (address_at g p c.args.object b) i c.loop-index.invariant.noted one;
-      block = λ inner. same_block p b i c.next_block.result c.next_block.ensures inner;
+      block = λ inner. same_block p b i c.next_block-block.result c.next_block-block.ensures inner;
     }
 
 pub returns : goal.returns
