@@ -2,6 +2,7 @@
 use crate::faults::{LineFault, ScriptFault, What};
 use crate::reading::{read, read_volume};
 use ds_base::{Geom, Kind};
+use ds_tree::{Directive, HostPlan};
 use std::alloc::Global;
 use std::test::Fail;
 use uuid::Uuid;
@@ -120,6 +121,40 @@ fn reads_each_line_or_tells_its_first_fault(rt: HostRuntime) -> Result<(), Fail>
     ];
     for (lines, want) in &table {
         assert_eq!(rt; fault_behind(rt.alloc(), lines)?, *want);
+    }
+    Ok(())
+}
+
+/// Whether a directive of a host names a variable that takes a key.
+fn binds(plan: &HostPlan) -> bool {
+    plan.list.as_slice().iter().any(|directive| matches!(
+        directive,
+        Directive::Call { bind: Some(_), .. }
+    ))
+}
+
+// Each host has its own variables, and reading asks of none whether a call has given it a key.
+#[test]
+fn a_variable_is_named_by_its_own_host(rt: HostRuntime) -> Result<(), Fail> {
+    let alloc = rt.alloc();
+    for (lines, want) in [
+        (
+            b"b create root f as v\na stat v\n".as_slice(),
+            [false, true],
+        ),
+        (b"a stat v\nb stat v\na create v f as v\n", [true, false]),
+        (
+            b"a create root f as v\nb lookup root f as v\na stat v\n",
+            [true, true],
+        ),
+    ] {
+        let mut text = Vec::from_slice(alloc, VOLUME)?;
+        text.extend_from_slice(b"host a\nhost b\n")?;
+        text.extend_from_slice(lines)?;
+        let scenario = read(alloc, text.as_slice())?;
+        for (plan, named) in scenario.hosts.as_slice().iter().zip(want) {
+            assert_eq!(rt; binds(plan), named);
+        }
     }
     Ok(())
 }

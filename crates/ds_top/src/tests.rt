@@ -186,6 +186,16 @@ fn a_scenario_is_refused_where_it_is_bad_stuck_or_not_built(rt: HostRuntime) -> 
         ("host a\na tick 0\n", bad_line(3, LineFault::Number)),
         ("host a\nhost b\na wait b 1\nb wait a 1\n", stuck(0, 1)),
         ("host a\nhost b\n", not_built(1, 0)),
+        // A variable is no fault whichever host gives it a key, and no scenario with one can be run.
+        (
+            "host a\nhost b\nb create root f as v\na stat v\n",
+            not_built(1, 0),
+        ),
+        (
+            "host a\na register\na create root f as v\n",
+            not_built(0, 2),
+        ),
+        ("host a\na register\na create v f\n", not_built(0, 2)),
         ("host a\n", not_built(0, 1)),
         ("host a\na create root disk\n", not_built(0, 1)),
         (
