@@ -26,13 +26,37 @@ const SHAPE: Geom = Geom {
     items: [16, 4, 1, 1],
 };
 
-/// Keys: each object's birth is 1 more than its number.
-fn key(object: u32) -> Key {
-    Key {
-        object,
-        birth: u64::from(object) + 1,
-    }
-}
+/// The root, the file a in it, and the directories d and e; each object's birth is 1 more than its number.
+const ROOT: Key = Key {
+    object: 0,
+    birth: 1,
+};
+
+const A: Key = Key {
+    object: 1,
+    birth: 2,
+};
+
+const D: Key = Key {
+    object: 4,
+    birth: 5,
+};
+
+const E: Key = Key {
+    object: 5,
+    birth: 6,
+};
+
+/// A life that the root never had, and a number that is no descriptor's.
+const OTHER_LIFE: Key = Key {
+    object: 0,
+    birth: 2,
+};
+
+const PAST: Key = Key {
+    object: 16,
+    birth: 17,
+};
 
 #[derive(Clone, Copy, Debug, PartialEq, Eq)]
 enum Asked {
@@ -70,7 +94,7 @@ fn put_body(sectors: &mut Vec<Sector>, object: u32, kind: NodeKind, listed: &[u3
         object,
         kind: Some(kind),
         links: if kind == NodeKind::File { 1 } else { 0 },
-        birth: key(object).birth,
+        birth: u64::from(object) + 1,
         count: listed.len().min(96) as u32,
         addresses,
     };
@@ -81,7 +105,10 @@ fn put_body(sectors: &mut Vec<Sector>, object: u32, kind: NodeKind, listed: &[u3
 
 fn entry(name: &[u8], object: u32, kind: NodeKind) -> Option<Entry> {
     let name = Name::from_bytes(name)?;
-    let key = key(object);
+    let key = Key {
+        object,
+        birth: u64::from(object) + 1,
+    };
     Some(Entry { name, key, kind })
 }
 
@@ -92,6 +119,50 @@ fn put_sub(sectors: &mut Vec<Sector>, number: usize, rooms: [Option<Entry>; 4]) 
     }
 }
 
+fn put_dirs(sectors: &mut Vec<Sector>) {
+    put_body(sectors, 0, NodeKind::Dir, &[2, 0]);
+    put_body(sectors, 4, NodeKind::Dir, &[1]);
+    put_body(sectors, 5, NodeKind::Dir, &[3]);
+}
+
+fn put_files(sectors: &mut Vec<Sector>) {
+    for object in [1, 2, 3, 6, 7, 8, 9, 10] {
+        put_body(sectors, object, NodeKind::File, &[]);
+    }
+}
+
+fn put_root(sectors: &mut Vec<Sector>) {
+    let first = [
+        entry(b"a", 1, NodeKind::File),
+        None,
+        entry(b"d", 4, NodeKind::Dir),
+        None,
+    ];
+    let second = [
+        None,
+        entry(b"b", 2, NodeKind::File),
+        entry(b"c", 3, NodeKind::File),
+        entry(b"e", 5, NodeKind::Dir),
+    ];
+    put_sub(sectors, 2, first);
+    put_sub(sectors, 0, second);
+}
+
+fn put_others(sectors: &mut Vec<Sector>) {
+    let full = [
+        entry(b"k", 6, NodeKind::File),
+        entry(b"l", 7, NodeKind::File),
+        entry(b"m", 8, NodeKind::File),
+        entry(b"n", 9, NodeKind::File),
+    ];
+    put_sub(sectors, 1, full);
+    put_sub(
+        sectors,
+        3,
+        [entry(b"k", 10, NodeKind::File), None, None, None],
+    );
+}
+
 /// The root has the files a, b and c and the directories d and e, in sub-blocks 2 and 0; d has four files in sub-block 1, and e has
 /// one in sub-block 3. All sub-blocks of the first cluster are used.
 fn volume(alloc: Global) -> Result<Vec<Sector>, Fail> {
@@ -99,39 +170,10 @@ fn volume(alloc: Global) -> Result<Vec<Sector>, Fail> {
     let mut sectors = format(alloc, &SHAPE, Uuid::from_u128(7))?;
     put_bits(&mut sectors, 36, Kind::Fd, 11);
     put_bits(&mut sectors, 38, Kind::Sb, 4);
-    put_body(&mut sectors, 0, NodeKind::Dir, &[2, 0]);
-    put_body(&mut sectors, 4, NodeKind::Dir, &[1]);
-    put_body(&mut sectors, 5, NodeKind::Dir, &[3]);
-    for object in [1, 2, 3, 6, 7, 8, 9, 10] {
-        put_body(&mut sectors, object, NodeKind::File, &[]);
-    }
-    let (file, dir) = (NodeKind::File, NodeKind::Dir);
-    put_sub(
-        &mut sectors,
-        2,
-        [entry(b"a", 1, file), None, entry(b"d", 4, dir), None],
-    );
-    put_sub(
-        &mut sectors,
-        0,
-        [
-            None,
-            entry(b"b", 2, file),
-            entry(b"c", 3, file),
-            entry(b"e", 5, dir),
-        ],
-    );
-    put_sub(
-        &mut sectors,
-        1,
-        [
-            entry(b"k", 6, file),
-            entry(b"l", 7, file),
-            entry(b"m", 8, file),
-            entry(b"n", 9, file),
-        ],
-    );
-    put_sub(&mut sectors, 3, [entry(b"k", 10, file), None, None, None]);
+    put_dirs(&mut sectors);
+    put_files(&mut sectors);
+    put_root(&mut sectors);
+    put_others(&mut sectors);
     Ok(sectors)
 }
 
@@ -257,48 +299,45 @@ fn same_entries(one: &Tree, other: &Tree, dir: u32) -> bool {
     false
 }
 
-fn moved(object: u32) -> TreeReply {
-    TreeReply::Moved { key: key(object) }
+/// The call's end and the volume as it leaves it are those of the tree.
+fn ends_as_the_tree_does(rt: &impl Abort, alloc: Global, call: &Call) -> Result<(), Fail> {
+    let image = image_of(alloc, volume(alloc)?)?;
+    let mut tree = read_tree(alloc, &image)?.ok_or("it stands for no tree")?;
+    assert!(rt; is_rename(call));
+    assert!(rt; has_names(call));
+    assert!(rt; !tree.worn());
+    let reply = tree.call(call)?;
+    let (answer, left) = left_by(rt, alloc, call)?;
+    assert_eq!(rt; answer, reply);
+    let after = read_tree(alloc, &left)?.ok_or("it leaves no tree")?;
+    assert!(rt; same_trees(&tree, &after));
+    Ok(())
 }
 
+/// Inside one directory, into a free room and into a new sub-block, and each refusal.
 #[test]
 fn replies_and_trees_are_those_of_the_tree(rt: HostRuntime) -> Result<(), Fail> {
-    let alloc = rt.alloc();
-    let other_life = Key {
-        object: 0,
-        birth: 2,
-    };
-    let cases: [(Key, &[u8], Key, &[u8], TreeReply); 16] = [
-        (key(0), b"a", key(0), b"z", moved(1)),
-        (key(0), b"a", key(0), b"a", TreeReply::Exists),
-        (key(0), b"a", key(0), b"b", TreeReply::Exists),
-        (key(0), b"d", key(0), b"f", moved(4)),
-        (key(0), b"a", key(5), b"z", moved(1)),
-        (key(0), b"a", key(4), b"z", moved(1)),
-        (key(4), b"k", key(0), b"k", moved(6)),
-        (key(0), b"d", key(5), b"k", TreeReply::CrossDir),
-        (key(0), b"a", key(5), b"k", TreeReply::Exists),
-        (key(0), b"x", key(5), b"k", TreeReply::NotFound),
-        (key(1), b"a", key(5), b"k", TreeReply::NotDir),
-        (key(0), b"a", key(1), b"k", TreeReply::NotDir),
-        (key(16), b"a", key(5), b"k", TreeReply::NoObject),
-        (key(0), b"a", key(16), b"k", TreeReply::NoObject),
-        (other_life, b"a", key(5), b"k", TreeReply::NoObject),
-        (key(0), b"a", other_life, b"k", TreeReply::NoObject),
+    let cases: [(Key, &[u8], Key, &[u8]); 16] = [
+        (ROOT, b"a", ROOT, b"z"),
+        (ROOT, b"a", ROOT, b"a"),
+        (ROOT, b"a", ROOT, b"b"),
+        (ROOT, b"d", ROOT, b"f"),
+        (ROOT, b"a", E, b"z"),
+        (ROOT, b"a", D, b"z"),
+        (D, b"k", ROOT, b"k"),
+        (ROOT, b"d", E, b"k"),
+        (ROOT, b"a", E, b"k"),
+        (ROOT, b"x", E, b"k"),
+        (A, b"a", E, b"k"),
+        (ROOT, b"a", A, b"k"),
+        (PAST, b"a", E, b"k"),
+        (ROOT, b"a", PAST, b"k"),
+        (OTHER_LIFE, b"a", E, b"k"),
+        (ROOT, b"a", OTHER_LIFE, b"k"),
     ];
-    for (dir, name, to, fresh, expected) in &cases {
-        let call = rename(&rt, *dir, *name, *to, *fresh);
-        let image = image_of(alloc, volume(alloc)?)?;
-        let mut tree = read_tree(alloc, &image)?.ok_or("it stands for no tree")?;
-        assert!(rt; is_rename(&call));
-        assert!(rt; has_names(&call));
-        assert!(rt; !tree.worn());
-        let reply = tree.call(&call)?;
-        let (answer, left) = left_by(&rt, alloc, &call)?;
-        assert_eq!(rt; &answer, &reply);
-        assert_eq!(rt; &answer, expected);
-        let after = read_tree(alloc, &left)?.ok_or("it leaves no tree")?;
-        assert!(rt; same_trees(&tree, &after));
+    for (dir, name, to, fresh) in cases {
+        let call = rename(&rt, dir, name, to, fresh);
+        ends_as_the_tree_does(&rt, rt.alloc(), &call)?;
     }
     Ok(())
 }
@@ -325,15 +364,38 @@ fn both_directories_come_before_any_sub_block(rt: HostRuntime) -> Result<(), Fai
         Read(40),
     ];
     let cases: [(&[u8], Key, &[Asked]); 4] = [
-        (b"a", key(0), inside.as_slice()),
-        (b"d", key(5), crossing.as_slice()),
-        (b"a", key(16), no_object.as_slice()),
-        (b"a", key(4), new_sub_block.as_slice()),
+        (b"a", ROOT, inside.as_slice()),
+        (b"d", E, crossing.as_slice()),
+        (b"a", PAST, no_object.as_slice()),
+        (b"a", D, new_sub_block.as_slice()),
     ];
     for (name, to, expected) in cases {
-        let call = rename(&rt, key(0), name, to, b"z");
+        let call = rename(&rt, ROOT, name, to, b"z");
         let (asked, _) = asked_of(&rt, alloc, &image, &call)?;
         assert_eq!(rt; asked.as_slice(), expected);
     }
+    Ok(())
+}
+
+/// How a Rename of file a from the root ends on these sectors.
+fn end_of(rt: &impl Abort, alloc: Global, sectors: Vec<Sector>, to: Key) -> Result<Ask, Fail> {
+    let image = image_of(alloc, sectors)?;
+    let call = rename(rt, ROOT, b"a", to, b"z");
+    let (_, end) = asked_of(rt, alloc, &image, &call)?;
+    Ok(end)
+}
+
+/// Directory e lists the sub-block that has a, or this sub-block isn't marked as used.
+#[test]
+fn the_own_sub_block_of_an_entry_is_odd(rt: HostRuntime) -> Result<(), Fail> {
+    let alloc = rt.alloc();
+    let mut twice_listed = volume(alloc)?;
+    put_body(&mut twice_listed, 5, NodeKind::Dir, &[2]);
+    let end = end_of(&rt, alloc, twice_listed, E)?;
+    assert!(rt; matches!(end, Ask::Odd(79)));
+    let mut unmarked = volume(alloc)?;
+    put_bits(&mut unmarked, 38, Kind::Sb, 2);
+    let end = end_of(&rt, alloc, unmarked, D)?;
+    assert!(rt; matches!(end, Ask::Odd(79)));
     Ok(())
 }
