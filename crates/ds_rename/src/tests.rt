@@ -177,13 +177,25 @@ fn volume(alloc: Global) -> Result<Vec<Sector>, Fail> {
     Ok(sectors)
 }
 
-fn image_of(alloc: Global, sectors: Vec<Sector>) -> Result<Image, Fail> {
+fn lun_of(sectors: Vec<Sector>) -> Result<MemLun, Fail> {
     SHAPE.check().ok().ok_or("no geometry")?;
     if sectors.len() != total(&SHAPE) as usize {
         return Err("the volume has another size".into());
     }
-    let lun = MemLun::from_list(sectors);
-    Ok(overlay(alloc, &SHAPE, &lun)?)
+    Ok(MemLun::from_list(sectors))
+}
+
+fn image_of(alloc: Global, lun: &MemLun) -> Result<Image<MemLun>, Fail> {
+    SHAPE.check().ok().ok_or("no geometry")?;
+    if lun.len() != total(&SHAPE) {
+        return Err("the volume has another size".into());
+    }
+    Ok(overlay(alloc, &SHAPE, lun)?)
+}
+
+fn tree_of(alloc: Global, lun: &MemLun) -> Result<Tree, Fail> {
+    let image = image_of(alloc, lun)?;
+    Ok(read_tree(alloc, &image)?.ok_or("it stands for no tree")?)
 }
 
 fn rename(rt: &impl Abort, dir: Key, name: &[u8], to: Key, fresh: &[u8]) -> Call {
@@ -221,7 +233,7 @@ fn is_rename(call: &Call) -> bool
 fn asked_of(
     rt: &impl Abort,
     alloc: Global,
-    image: &Image,
+    image: &Image<MemLun>,
     call: &Call,
 ) -> Result<(Vec<Asked>, Ask), Fail> {
     assert!(rt; SHAPE.check().is_ok());
@@ -239,7 +251,8 @@ fn asked_of(
             }
             Ask::Read(at) => {
                 assert!(rt; seen.sector(at).is_none());
-                seen.put(at, image.sector(at).ok_or("no sector of metadata")?);
+                let sector = image.sector(at).ok_or("no sector of metadata")?;
+                seen.put(at, &sector);
                 asked.push(Asked::Read(at))?;
             }
             end => {
@@ -252,17 +265,18 @@ fn asked_of(
 }
 
 /// How a call ends, and the volume as it leaves it.
-fn left_by(rt: &impl Abort, alloc: Global, call: &Call) -> Result<(TreeReply, Image), Fail> {
-    let image = image_of(alloc, volume(alloc)?)?;
+fn left_by(rt: &impl Abort, alloc: Global, call: &Call) -> Result<(TreeReply, MemLun), Fail> {
+    let lun = lun_of(volume(alloc)?)?;
+    let image = image_of(alloc, &lun)?;
     let (_, end) = asked_of(rt, alloc, &image, call)?;
     match end {
-        Ask::Done(reply) => Ok((reply, image)),
+        Ask::Done(reply) => Ok((reply, lun_of(volume(alloc)?)?)),
         Ask::Change(redo, reply) => {
             let mut sectors = volume(alloc)?;
             for pair in redo.pairs.as_slice() {
                 put(&mut sectors, pair.0 as usize, pair.1);
             }
-            Ok((reply, image_of(alloc, sectors)?))
+            Ok((reply, lun_of(sectors)?))
         }
         _ => Err("it ends without a reply".into()),
     }
@@ -301,15 +315,15 @@ fn same_entries(one: &Tree, other: &Tree, dir: u32) -> bool {
 
 /// The call's end and the volume as it leaves it are those of the tree.
 fn ends_as_the_tree_does(rt: &impl Abort, alloc: Global, call: &Call) -> Result<(), Fail> {
-    let image = image_of(alloc, volume(alloc)?)?;
-    let mut tree = read_tree(alloc, &image)?.ok_or("it stands for no tree")?;
+    let lun = lun_of(volume(alloc)?)?;
+    let mut tree = tree_of(alloc, &lun)?;
     assert!(rt; is_rename(call));
     assert!(rt; has_names(call));
     assert!(rt; !tree.worn());
     let reply = tree.call(call)?;
     let (answer, left) = left_by(rt, alloc, call)?;
     assert_eq!(rt; answer, reply);
-    let after = read_tree(alloc, &left)?.ok_or("it leaves no tree")?;
+    let after = tree_of(alloc, &left)?;
     assert!(rt; same_trees(&tree, &after));
     Ok(())
 }
@@ -347,7 +361,8 @@ fn replies_and_trees_are_those_of_the_tree(rt: HostRuntime) -> Result<(), Fail> 
 fn both_directories_come_before_any_sub_block(rt: HostRuntime) -> Result<(), Fail> {
     use Asked::{Lock, Read};
     let alloc = rt.alloc();
-    let image = image_of(alloc, volume(alloc)?)?;
+    let lun = lun_of(volume(alloc)?)?;
+    let image = image_of(alloc, &lun)?;
     let inside = [Lock(0), Read(46), Read(79), Read(77)];
     let crossing = [Lock(0), Read(46), Lock(5), Read(56), Read(79)];
     let no_object = [Lock(0), Read(46)];
@@ -379,7 +394,8 @@ fn both_directories_come_before_any_sub_block(rt: HostRuntime) -> Result<(), Fai
 
 /// How a Rename of file a from the root ends on these sectors.
 fn end_of(rt: &impl Abort, alloc: Global, sectors: Vec<Sector>, to: Key) -> Result<Ask, Fail> {
-    let image = image_of(alloc, sectors)?;
+    let lun = lun_of(sectors)?;
+    let image = image_of(alloc, &lun)?;
     let call = rename(rt, ROOT, b"a", to, b"z");
     let (_, end) = asked_of(rt, alloc, &image, &call)?;
     Ok(end)
