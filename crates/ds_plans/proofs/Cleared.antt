@@ -1,10 +1,10 @@
 -- The bitmaps of a kind without items, among those that are written: the bits of the items are cleared.
-use Rattle.std.proofs.Common.{◌≡◌, ◌≢◌, ℕ, ◌+◌, ◌*◌, ◌/◌, ◌<◌, ◌⊎◌, inl, inr, List, [], ◌∷◌, ◌++◌, map, length, Option, Some, None, slice_get, refl, sym, ap, subst, ◌∙◌, arith}
+use Rattle.std.proofs.Common.{◌≡◌, ℕ, ◌+◌, ◌/◌, ◌<◌, ◌⊎◌, inl, inr, List, [], ◌∷◌, ◌++◌, map, length, Option, Some, None, slice_get, refl, sym, ap, subst, ◌∙◌, arith}
 use Rattle.std.specs.Prelude.{Contains, option_map}
 use Rattle.std.proofs.Math.Nat.{div-lt_iff_lt-mul}
 use Rattle.std.proofs.lemmas.Bool.{cases_lt}
 use Rattle.std.proofs.lemmas.Option.{slice_get-map}
-use Rattle.ds_base.specs.Geometry.{IsGeom, clusters_of, per_cluster, items_of}
+use Rattle.ds_base.specs.Geometry.{IsGeom, per_cluster, items_of}
 use Rattle.ds_base.specs.declared.geometry.Geom.{Geom}
 use Rattle.ds_base.specs.declared.geometry.GeomField.TheVariants.{Items}
 use Rattle.ds_base.specs.declared.geometry.Kind.{Kind}
@@ -20,7 +20,7 @@ use Rattle.ds_image.proofs.Listed.{bits_length}
 use Rattle.ds_image.proofs.Places.{at-append, at-append_left, at-append_right, at-from_Contains, marked-within}
 use Rattle.ds_plans.specs.Giving.{Maps, map_sector, map_sectors}
 use Rattle.ds_plans.proofs.GivingWalk.{AreMarked, map-known, map-in}
-use Rattle.ds_plans.proofs.MapsLeft.{IsWithout, without-is, IsLeft, AreLeft}
+use Rattle.ds_plans.proofs.MapsLeft.{IsWithout, without-is, AreLeft}
 use Rattle.ds_tree.specs.Nodes.{FileTree}
 
 -- bitmaps of a kind without these items, each of its cluster, and one of each of the items' clusters
@@ -75,7 +75,7 @@ writes-sectors g kind [] = refl
 writes-sectors g kind (m ∷ maps) = ap (λ rest. map_sector g kind m ∷ rest) (writes-sectors g kind maps)
 
 -- a write is that of a bitmap
-write-of : (kind : Kind) (maps : Maps) (i : ℕ) (w : MapWrite) → slice_get (map_writes kind maps) i ≡ Some w
+pub write-of : (kind : Kind) (maps : Maps) (i : ℕ) (w : MapWrite) → slice_get (map_writes kind maps) i ≡ Some w
     → (m : ℕ × Bitmap) × (slice_get maps i ≡ Some m) × (map_write kind m ≡ w)
 write-of kind maps i w at = by (slice_get maps i) refl (sym (slice_get-map (map_write kind) maps i) ∙ at)
   where

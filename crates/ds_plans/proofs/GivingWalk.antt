@@ -1,7 +1,7 @@
 -- A planner that gives items up asks for what it may, and clears their bits.
-use Rattle.std.proofs.Common.{◌≡◌, ℕ, zero, suc, ◌+◌, ◌*◌, ◌/◌, ◌%◌, ◌<◌, ◌≤◌, ◌==◌, nat_le, true, false, if◌then◌else◌, List, ◌∷◌, Option, Some, None, inl, inr, refl, sym, ap, subst, ◌∙◌, arith, slice_get, is_some}
-use Rattle.std.specs.Prelude.{Result, Ok, Err, IsSome}
-use Rattle.std.proofs.Math.Nat.{mod-lt, div-lt_iff_lt-mul}
+use Rattle.std.proofs.Common.{◌≡◌, ℕ, zero, suc, ◌+◌, ◌*◌, ◌/◌, ◌%◌, ◌<◌, ◌≤◌, ◌==◌, nat_le, true, false, List, ◌∷◌, Option, Some, None, inr, refl, sym, ap, subst, ◌∙◌, arith, slice_get, is_some}
+use Rattle.std.specs.Prelude.{Ok, Err, IsSome}
+use Rattle.std.proofs.Math.Nat.{mod-lt}
 use Rattle.std.proofs.lemmas.Bool.{false≢true}
 use Rattle.std.proofs.lemmas.Bool.Decides.{nat_tests}
 use Rattle.std.proofs.lemmas.Nat.{div-add-mod'}
@@ -25,12 +25,11 @@ use Rattle.ds_image.proofs.Listed.{bits_length}
 use Rattle.ds_image.proofs.Places.{marked-within}
 use Rattle.ds_layout.specs.Places.{cluster_lock, place_sector}
 use Rattle.ds_layout.specs.declared.places.Place.TheVariants as places
-use Rattle.ds_plans.specs.Giving.{Maps, some_outside, is_touched, map_without, or_odd, map_left, maps_from, maps_left}
+use Rattle.ds_plans.specs.Giving.{some_outside, is_touched, map_without, or_odd, map_left, maps_from, maps_left}
 use Rattle.ds_plans.specs.Goes.{Goes}
 use Rattle.ds_plans.specs.Items.{map_read, map_seen}
 use Rattle.ds_plans.specs.Locks.{GivesUp, to_give, MayLock}
 use Rattle.ds_plans.specs.PlanAsks.{PlanAsks, HasMap}
-use Rattle.ds_plans.specs.Steps.{after}
 use Rattle.ds_plans.proofs.Going.{goes-after, goes-if, goes-weaker}
 use Rattle.ds_plans.proofs.ItemWalk.{goes-known}
 use Rattle.ds_plans.proofs.Limits.{if-ok, map_alike, part-known}

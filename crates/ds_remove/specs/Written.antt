@@ -1,9 +1,7 @@
 -- The bitmaps that are written to take an object away, kind after kind: they clear its items, stand in their order, and their
 -- clusters are held.
 use Rattle.std.proofs.Common.{◌≡◌, ◌≢◌, ℕ, zero, suc, ◌+◌, ◌*◌, ◌<◌, ◌≤◌, ◌⊎◌, inl, inr, List, [], ◌∷◌, ◌++◌, length, map, Option, None, Some, true, refl, sym, ap, subst, ◌∙◌, arith, slice_get, length-append}
-use Rattle.std.specs.Prelude.{option_map}
 use Rattle.std.proofs.lemmas.List.{length-map, map-append}
-use Rattle.std.proofs.lemmas.Option.{slice_get-map}
 use Rattle.ds_base.specs.Geometry.{IsGeom, clusters_of}
 use Rattle.ds_base.specs.declared.geometry.Geom.{Geom}
 use Rattle.ds_base.specs.declared.geometry.GeomField.TheVariants.{Clusters}
@@ -23,7 +21,7 @@ use Rattle.ds_jrnl.specs.declared.redo.Redo.{Redo}
 use Rattle.ds_layout.specs.Places.{cluster_lock, clusters_before, place_sector}
 use Rattle.ds_layout.specs.declared.places.Place.TheVariants as places
 use Rattle.ds_plans.specs.Giving.{Maps, map_sectors, with_maps_left}
-use Rattle.ds_plans.proofs.Cleared.{ClearsKind, ClearsSome, map_write, map_writes, writes-sectors, clears-none, clears-more, clears-all, left-clears}
+use Rattle.ds_plans.proofs.Cleared.{ClearsKind, ClearsSome, map_write, map_writes, writes-sectors, write-of, clears-none, clears-more, clears-all, left-clears}
 use Rattle.ds_plans.proofs.GivingWalk.{AreMarked, map-known}
 use Rattle.ds_plans.proofs.MapsLeft.{AreLeft}
 use Rattle.ds_tree.specs.Nodes.{FileTree}
@@ -53,15 +51,6 @@ nothing-written g seen given = record {
   of = λ i w at. absurd (let wrong : ◌≡◌ {A = Option MapWrite} None (Some w) = at in cc);
   rising = λ i j w v l one two. absurd (let wrong : ◌≡◌ {A = Option MapWrite} None (Some w) = one in cc);
 }
-
--- a write is that of a bitmap
-write-of : (kind : Kind) (maps : Maps) (i : ℕ) (w : MapWrite) → slice_get (map_writes kind maps) i ≡ Some w
-    → (m : ℕ × Bitmap) × (slice_get maps i ≡ Some m) × (map_write kind m ≡ w)
-write-of kind maps i w at = by (slice_get maps i) refl (sym (slice_get-map (map_write kind) maps i) ∙ at)
-  where
-    by : (r : Option (ℕ × Bitmap)) → slice_get maps i ≡ r → option_map (map_write kind) r ≡ Some w → (m : ℕ × Bitmap) × (slice_get maps i ≡ Some m) × (map_write kind m ≡ w)
-    by None e is = absurd cc
-    by (Some m) e is = let same : map_write kind m ≡ w = cc in (m, e, same)
 
 module _ (g : Geom) (is_geom : IsGeom g) (seen : SeenValue) (p : Parts) (reads : Reads g (look_of seen) p) (given : Given) where
   -- one kind more, whose bitmaps stand behind those before
