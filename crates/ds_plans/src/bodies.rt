@@ -20,6 +20,7 @@ pub fn body_of_key(geom: &Geom, seen: &Seen, key: &Key) -> Result<Body, Ask>
     requires { IsGeom geom.now }
     ensures answer { (p : Parts) → Reads geom.now (look_of seen.now) p → result ≡ body_of_key geom.now seen.now p key.now }
     ensures inside { IfOk result (λ body. body.object < items_of geom.now Fd) }
+    ensures is_body { IfOk result IsBody }
 {
     if key.object >= descriptors(geom) {
         return Err(Ask::Done(TreeReply::NoObject));
