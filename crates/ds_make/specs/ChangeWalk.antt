@@ -156,7 +156,7 @@ module _ (g : Geom) (is_geom : IsGeom g) (slot : ℕ) (key : Key) (name : List �
         let block_sector : Sector = record { bytes = sub_bytes block } in
         record {
           targets = filled-targets g c o n has.has.inside o-within room.has.inside map_sector new_sector block_sector;
-          right = λ image t stands agrees large.
+          right = λ image t stands agrees.
               let make = ready image t stands agrees in
               let fill = fills image t stands agrees in
               right-change g call seen image t (pairs_filled g made free) (Made made.entry.key)
@@ -229,16 +229,15 @@ module _ (g : Geom) (is_geom : IsGeom g) (slot : ℕ) (key : Key) (name : List �
     ordered-good : (swapped : Bool) → AreTargets g (targets_of (pairs_by swapped)) → IsPlanChange g call seen (pairs_by swapped) (Made made.entry.key)
     ordered-good swapped targets = record {
       targets = targets;
-      right = λ image t stands agrees large.
+      right = λ image t stands agrees.
           let make = ready image t stands agrees in
           let grow = adds image t stands agrees in
-          let inside : place_sector g (places.SubBlock n) < length image = omega (arith, large, n-within) in
           right-change g call seen image t (pairs_by swapped) (Made made.entry.key)
-          (grown-leaves g is_geom image t stands key dir o made.entry made.body item.cluster (map_taken item) n grown sub.cluster (map_taken sub) (block_alone made.entry) make grow inside
+          (grown-leaves g is_geom image t stands key dir o made.entry made.body item.cluster (map_taken item) n grown sub.cluster (map_taken sub) (block_alone made.entry) make grow
           map_sector sub_map_sector dir_sector new_sector block_sector refl refl refl refl refl swapped)
-          (grown-guarded_before g is_geom image t stands key dir o made.entry made.body item.cluster (map_taken item) n grown sub.cluster (map_taken sub) (block_alone made.entry) make grow inside
+          (grown-guarded_before g is_geom image t stands key dir o made.entry made.body item.cluster (map_taken item) n grown sub.cluster (map_taken sub) (block_alone made.entry) make grow
           map_sector sub_map_sector dir_sector new_sector block_sector refl refl refl refl refl (HoldsLock seen) has.has.held has_sub.has.held o-held whole.has.held swapped)
-          (grown-guarded_after g is_geom image t stands key dir o made.entry made.body item.cluster (map_taken item) n grown sub.cluster (map_taken sub) (block_alone made.entry) make grow inside
+          (grown-guarded_after g is_geom image t stands key dir o made.entry made.body item.cluster (map_taken item) n grown sub.cluster (map_taken sub) (block_alone made.entry) make grow
           map_sector sub_map_sector dir_sector new_sector block_sector refl refl refl refl refl (HoldsLock seen) has.has.held has_sub.has.held o-held whole.has.held swapped);
     }
 

@@ -1,4 +1,4 @@
--- The planner of Mkdir and Create keeps the law of planners, for images that have all sub-blocks.
+-- The planner of Mkdir and Create keeps the law of planners.
 use Rattle.std.proofs.Common.{◌≡◌, ◌≢◌, ℕ, zero, suc, ◌+◌, ◌*◌, ◌<◌, ◌≤◌, ◌==◌, true, false, nat_le, List, [], ◌∷◌, length, Option, None, Some, refl, sym, ap, subst, ◌∙◌, arith, slice_get, is_some, ne_eqb, eq-eqb, length-take-le}
 use Rattle.std.specs.Prelude.{Result, Ok, Err}
 use Rattle.std.specs.FinMap as maps
@@ -21,10 +21,10 @@ use Rattle.ds_changes.proofs.Bits.{bits-at, clear-some}
 use Rattle.ds_changes.proofs.FreeItems.{free-some}
 use Rattle.ds_fd.specs.Body.{most_count}
 use Rattle.ds_fd.specs.declared.body.Body.{Body}
-use Rattle.ds_image.specs.Asking.{Agrees, IsFew, Reached, makes_object}
+use Rattle.ds_image.specs.Asking.{Agrees, makes_object}
 use Rattle.ds_image.specs.Objects.{subs_by, subs_of, used_rooms, entries_of}
 use Rattle.ds_image.specs.Parts.{Parts}
-use Rattle.ds_image.specs.Planning.{AllAreFew, Asks}
+use Rattle.ds_image.specs.Planning.{AllAreFew, AllKeep}
 use Rattle.ds_image.specs.Readings.{Reads}
 use Rattle.ds_image.specs.SeenValues.{SeenValue, look_of}
 use Rattle.ds_image.specs.Sound.{StandsFor}
@@ -36,7 +36,6 @@ use Rattle.ds_make.specs.Answers.{MakeValue, call_of, unused_body, object_known,
 use Rattle.ds_make.specs.ChangeWalk.{filled-good, grown-good}
 use Rattle.ds_plans.proofs.ItemWalk.{wanted_goes}
 use Rattle.ds_plans.specs.Items.{number_of, free_item, wanted_item}
-use Rattle.ds_plans.specs.Keeping.{KeepsWhole}
 use Rattle.ds_make.specs.Limits.{MayHold, MayRead, the_dir, a_cluster, of_dir, of_cluster, holds-stay, reads-stay, lock_list, sector_list, in-lock_list, in-sector_list, few_locks, few_sectors}
 use Rattle.ds_plans.specs.PlanAsks.{PlanAsks, IsPlanChange, HasItem, HasWhole}
 use Rattle.ds_make.specs.ObjectWalk.{HasNew, some-there, unused_goes}
@@ -248,17 +247,11 @@ asks_of : (plan : MakeValue) → IsGeom plan.geom → HasNames (call_of plan) �
     → PlanAsks plan.geom plan.slot (call_of plan) (MayHold plan.geom plan.slot plan.dir.object) (MayRead plan.geom plan.slot plan.dir.object) seen p (answers_of plan seen p)
 asks_of plan is names seen p reads = make_asks plan.geom is plan.slot plan.dir plan.name (names-by plan.kind plan.dir plan.name names) plan.kind seen p reads
 
--- each answer has its form, and is right for each image that has all sub-blocks
-pub make_keeps : (plan : MakeValue) → IsGeom plan.geom → HasNames (call_of plan) → (seen : SeenValue) (p : Parts) → Reads plan.geom (look_of seen) p
-    → KeepsWhole plan.geom (call_of plan) seen p (answers_of plan seen p)
+-- each answer has its form, and is right
+pub make_keeps : (plan : MakeValue) → IsGeom plan.geom → HasNames (call_of plan) → AllKeep plan.geom (call_of plan) (answers_of plan)
 make_keeps plan is names seen p reads =
     plan_keeps plan.geom plan.slot (call_of plan) (MayHold plan.geom plan.slot plan.dir.object) (MayRead plan.geom plan.slot plan.dir.object) seen p (answers_of plan seen p)
     (asks_of plan is names seen p reads)
-
-pub keeps_as : (plan : MakeValue) (seen : SeenValue) (p : Parts) (ask : Ask) → ask ≡ answers_of plan seen p → IsGeom plan.geom → IsName plan.name → Reads plan.geom (look_of seen) p
-    → KeepsWhole plan.geom (call_of plan) seen p ask
-keeps_as plan seen p ask is geom named reads =
-    subst (KeepsWhole plan.geom (call_of plan) seen p) (sym is) (make_keeps plan geom (name-of plan.kind plan.dir plan.name named) seen p reads)
 
 -- only allowed locks are asked for
 pub allowed_as : (plan : MakeValue) (seen : SeenValue) (p : Parts) (ask : Ask) → ask ≡ answers_of plan seen p → IsGeom plan.geom → IsName plan.name → Reads plan.geom (look_of seen) p
@@ -282,8 +275,3 @@ make_few plan is names =
     (λ seen p reads k may. in-sector_list g slot dir seen p k may)
     (λ seen p reads. few_locks g slot dir seen p)
     (λ seen p reads. few_sectors g slot dir seen p reads)
-
-pub few_as : (plan : MakeValue) (seen : SeenValue) (p : Parts) (ask : Ask) → ask ≡ answers_of plan seen p → IsGeom plan.geom → IsName plan.name → Reads plan.geom (look_of seen) p
-    → Reached (Asks plan.geom (answers_of plan)) seen → IsFew seen ask
-few_as plan seen p ask is geom named reads come =
-    subst (IsFew seen) (sym is) (make_few plan geom (name-of plan.kind plan.dir plan.name named) seen p reads come)

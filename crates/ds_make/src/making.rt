@@ -3,20 +3,17 @@ ghost use Rattle.std.specs.Prelude.{◌≡◌, true, IfOk};
 ghost use Rattle.ds_base.specs.Geometry.{IsGeom};
 ghost use Rattle.ds_base.specs.Names.{IsName};
 ghost use Rattle.ds_changes.specs.Entering.{make_call};
-ghost use Rattle.ds_image.specs.Asking.{IsFew, Reached, makes_object};
+ghost use Rattle.ds_image.specs.Asking.{makes_object};
 ghost use Rattle.ds_image.specs.Parts.{Parts};
-ghost use Rattle.ds_image.specs.Planning.{Asks};
 ghost use Rattle.ds_image.specs.Readings.{Reads};
 ghost use Rattle.ds_image.specs.SeenValues.{look_of};
 ghost use Rattle.ds_make.specs.Answers.{answers_of, call_of, change_known};
-ghost use Rattle.ds_plans.specs.Keeping.{KeepsWhole};
-ghost use Rattle.ds_plans.specs.Locks.{IsAllowed};
 ghost use Rattle.ds_tree.specs.CallNames.{HasNames};
 
 use crate::objects::object_known;
 use crate::redos::{redo_filled, redo_grown};
 use ds_base::{Geom, Key, Kind, Name, NodeKind, SlotNo, Word};
-use ds_image::{Ask, Seen};
+use ds_image::{Ask, Plan, Seen};
 use ds_jrnl::Redo;
 use ds_plans::{dir_of_key, entries_before, free_room, wanted_item};
 use ds_tree::{Call, CallOf, TreeReply};
@@ -84,19 +81,7 @@ impl Make {
         }
     }
 
-    /// What the call needs next by what it has seen, or how it ends.
-    pub fn ask(&self, seen: &Seen) -> Ask
-        ensures answer { (p : Parts) → Reads self.now.geom (look_of seen.now) p → result ≡ answers_of self.now seen.now p }
-        ensures locks { (p : Parts) → Reads self.now.geom (look_of seen.now) p
-            → IsAllowed self.now.geom self.now.slot (call_of self.now) p result }
-        ensures keeps { (p : Parts) → Reads self.now.geom (look_of seen.now) p
-            → KeepsWhole self.now.geom (call_of self.now) seen.now p result }
-        ensures few { (p : Parts) → Reads self.now.geom (look_of seen.now) p
-            → Reached (Asks self.now.geom (answers_of self.now)) seen.now → IsFew seen.now result }
-    {
-        self.asked(seen)
-    }
-
+    /// What is asked for, or how the call ends.
     fn asked(&self, seen: &Seen) -> Ask
         ensures answer { (p : Parts) → Reads self.now.geom (look_of seen.now) p → result ≡ answers_of self.now seen.now p }
         ensures geom { IsGeom self.now.geom }
@@ -144,4 +129,33 @@ fn name_of(word: &Word) -> Name
         unreachable!()
     };
     name
+}
+
+impl Plan for Make {
+    ghost use Rattle.std.specs.Prelude.{◌≡◌};
+    ghost use Rattle.ds_image.specs.Parts.{Parts};
+    ghost use Rattle.ds_image.specs.Readings.{Reads};
+    ghost use Rattle.ds_image.specs.SeenValues.{look_of};
+    ghost use Rattle.ds_make.specs.Answers.{answers_of, call_of};
+    ghost use Rattle.ds_make.specs.Laws.{make_keeps, make_few};
+    ghost use Rattle.ds_plans.specs.Locks.{IsAllowed};
+
+    ghost geom = { λ plan. plan.geom };
+
+    ghost call = { call_of };
+
+    ghost answers = { answers_of };
+
+    #[tactic(auto, using(crate::specs::Laws::allowed_as))]
+    fn ask(&self, seen: &Seen) -> Ask
+        ensures answer { (p : Parts) → Reads self.now.geom (look_of seen.now) p → result ≡ answers_of self.now seen.now p }
+        ensures locks { (p : Parts) → Reads self.now.geom (look_of seen.now) p
+            → IsAllowed self.now.geom self.now.slot (call_of self.now) p result }
+    {
+        self.asked(seen)
+    }
+
+    ghost keeps = { make_keeps };
+
+    ghost few = { make_few };
 }

@@ -4,7 +4,7 @@ use Rattle.std.specs.List.{list_any}
 use Rattle.ds_base.specs.declared.geometry.Geom.{Geom}
 use Rattle.ds_base.specs.declared.names.Key.{Key}
 use Rattle.ds_base.specs.declared.sectors.Sector.{Sector}
-use Rattle.ds_image.specs.Asking.{Agrees, HasForm, IsRight}
+use Rattle.ds_image.specs.Asking.{Agrees, HasForm, IsRight, Keeps}
 use Rattle.ds_image.specs.Parts.{Parts}
 use Rattle.ds_image.specs.Planning.{Answers, AllAreFew}
 use Rattle.ds_image.specs.Readings.{Reads}
@@ -12,7 +12,6 @@ use Rattle.ds_image.specs.SeenValues.{SeenValue, has_lock, look_of}
 use Rattle.ds_image.specs.Sound.{StandsFor}
 use Rattle.ds_image.specs.declared.asks.Ask.{Ask}
 use Rattle.ds_image.specs.declared.asks.Ask.TheVariants as asks
-use Rattle.ds_plans.specs.Keeping.{HasSubBlocks, KeepsWhole}
 use Rattle.ds_plans.specs.Locks.{IsAllowed}
 use Rattle.ds_plans.specs.PlanAsks.{PlanAsks}
 use Rattle.ds_plans.proofs.Growing.{Grows, few_of}
@@ -29,17 +28,17 @@ module _ (g : Geom) (slot : ℕ) (call : CallOf Key) (MayHold MayRead : SeenValu
   form_of seen p (asks.Done reply) is = is.block
   form_of seen p (asks.Change redo reply) is = is.targets
 
-  -- and is right for each image that has all sub-blocks
+  -- and is right for each image that agrees with what was seen
   right_of : (seen : SeenValue) (p : Parts) (ask : Ask) → PlanAsks g slot call MayHold MayRead seen p ask
-      → (image : List Sector) (t : FileTree) → StandsFor g image t → Agrees seen image → HasSubBlocks g image → IsRight g call seen image t ask
-  right_of seen p (asks.Lock object) is image t stands agrees large = tt
-  right_of seen p (asks.Read at) is image t stands agrees large = tt
-  right_of seen p (asks.Odd at) is image t stands agrees large = is.none image t stands agrees
-  right_of seen p (asks.Worn object) is image t stands agrees large = tt
-  right_of seen p (asks.Done reply) is image t stands agrees large = is.does image t stands agrees
-  right_of seen p (asks.Change redo reply) is image t stands agrees large = is.right image t stands agrees large
+      → (image : List Sector) (t : FileTree) → StandsFor g image t → Agrees seen image → IsRight g call seen image t ask
+  right_of seen p (asks.Lock object) is image t stands agrees = tt
+  right_of seen p (asks.Read at) is image t stands agrees = tt
+  right_of seen p (asks.Odd at) is image t stands agrees = is.none image t stands agrees
+  right_of seen p (asks.Worn object) is image t stands agrees = tt
+  right_of seen p (asks.Done reply) is image t stands agrees = is.does image t stands agrees
+  right_of seen p (asks.Change redo reply) is image t stands agrees = is.right image t stands agrees
 
-  pub plan_keeps : (seen : SeenValue) (p : Parts) (ask : Ask) → PlanAsks g slot call MayHold MayRead seen p ask → KeepsWhole g call seen p ask
+  pub plan_keeps : (seen : SeenValue) (p : Parts) (ask : Ask) → PlanAsks g slot call MayHold MayRead seen p ask → Keeps g call seen p ask
   plan_keeps seen p ask is = record { form = form_of seen p ask is; right = right_of seen p ask is }
 
   -- only allowed locks are asked for

@@ -19,7 +19,6 @@ use Rattle.ds_image.specs.declared.asks.Ask.TheVariants.{Lock, Read, Odd, Worn, 
 use Rattle.ds_layout.specs.Places.{IsLock, cluster_lock, place_sector}
 use Rattle.ds_layout.specs.declared.places.Place.TheVariants as places
 use Rattle.ds_plans.specs.Items.{IsFreeItem, first_clear}
-use Rattle.ds_plans.specs.Keeping.{HasSubBlocks}
 use Rattle.ds_plans.specs.declared.items.FreeItem.{FreeItem}
 use Rattle.ds_plans.specs.DirAsks.{FitsNone, IsKnown}
 use Rattle.ds_plans.specs.DirSeen.{HasDir, HasSub}
@@ -41,10 +40,10 @@ pub record IsPlanRead (g : Geom) (MayRead : SeenValue → Parts → ℕ → Type
   pub readable : IsReadable g seen at
   pub one : MayRead seen p at
 
--- pairs for metadata, which are right for each image that has all sub-blocks
+-- pairs for metadata, which are right for each image that agrees with what was seen
 pub record IsPlanChange (g : Geom) (call : CallOf Key) (seen : SeenValue) (pairs : List Pair) (reply : TreeReply) : Type 0 where
   pub targets : AreTargets g (targets_of pairs)
-  pub right : (image : List Sector) (t : FileTree) → StandsFor g image t → Agrees seen image → HasSubBlocks g image → IsRightChange g call seen image t pairs reply
+  pub right : (image : List Sector) (t : FileTree) → StandsFor g image t → Agrees seen image → IsRightChange g call seen image t pairs reply
 
 -- all that is asked for is good: locks and sectors are such as the planner may come to hold and read
 abbrev pub PlanAsks : Geom → ℕ → CallOf Key → (SeenValue → Parts → ℕ → Type 0) → (SeenValue → Parts → ℕ → Type 0) → SeenValue → Parts → Ask → Type 0

@@ -335,7 +335,7 @@ module _ (g : Geom) (is_geom : IsGeom g) (slot : ℕ) (key : Key) (size : ℕ) (
     pub grown-good : IsPlanChange g call seen (redo_of g r).pairs.items (Sized size)
     grown-good = record {
       targets = size-targets g r writable (put_all-rises (in_order fresh.maps.items) added.maps.items (put_all-rises [] fresh.maps.items tt)) maps-all;
-      right = λ image t stands agrees large. right image t stands agrees;
+      right = right;
     }
 
   -- The walk
