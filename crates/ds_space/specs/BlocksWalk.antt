@@ -29,6 +29,7 @@ use Rattle.ds_layout.specs.Places.{place_sector}
 use Rattle.ds_layout.specs.declared.places.Place.TheVariants as places
 use Rattle.ds_plans.specs.Bodies.{part_seen}
 use Rattle.ds_plans.specs.Goes.{Goes}
+use Rattle.ds_plans.specs.Locks.{block_seen}
 use Rattle.ds_plans.specs.PlanAsks.{PlanAsks}
 use Rattle.ds_plans.specs.Steps.{after}
 use Rattle.ds_plans.proofs.Dirs.{body_in}
@@ -46,6 +47,7 @@ use Rattle.ds_space.specs.Blocks.{pointer_seen, addresses_seen, blocks_of, block
 use Rattle.ds_space.specs.FileWalk.{HasFile}
 use Rattle.ds_space.specs.Holding.{MayHold, MayRead, of_pointer}
 use Rattle.ds_space.specs.PagesWritten.{dropped-at}
+use Rattle.ds_space.specs.SeenBlocks.{small-seen, large-seen}
 use Rattle.ds_space.specs.declared.blocks.Blocks.{Blocks}
 use Rattle.ds_tree.specs.Counts.{pointer_blocks}
 use Rattle.ds_tree.specs.Nodes.{FileTree}
@@ -79,6 +81,7 @@ pub record HasOld (g : Geom) (seen : SeenValue) (p : Parts) (b : Body) (first : 
   pub pointers : (i n : ℕ) → slice_get (pointers_from b first) i ≡ Some n → (block : PtrBlock) × HasPtr g seen p n block
   pub below : AllBelow (2 ^ 32) old.list.items
   pub count : length old.list.items ≡ b.count - 128 * first
+  pub seen_at : (j n : ℕ) → slice_get old.list.items j ≡ Some n → block_seen p b (128 * first + j) ≡ Some n
   pub are : (image : List Sector) (t : FileTree) (stands : StandsFor g image t) → Agrees seen image → old.list.items ≡ drop (128 * first) (blocks_in stands.parts b)
 
 module _ (g : Geom) (slot : ℕ) (key : Key) (size : ℕ) (seen : SeenValue) (p : Parts) (reads : Reads g (look_of seen) p) (b : Body) (has : HasFile g seen p key size b) where
@@ -209,6 +212,12 @@ module _ (g : Geom) (slot : ℕ) (key : Key) (size : ℕ) (seen : SeenValue) (p 
           let all = ptrs-length b (body_is g (look_of seen) p key.object b reads has.sees.there) file in
           omega (arith, length-take (b.count - 128 * first) found.list.items, ap (length {A = ℕ}) is.1, wide, length-drop first (pointers_in b), all, some-pointers b.count large)
           );
+      seen_at = λ j n at.
+          large-seen p b first (b.count - 128 * first) j n large
+          (λ i m here.
+          let got = is.0 i m here in
+          ap (λ r. length (addresses_in r)) got.1.there ∙ (((reads.ptrs.each m got.1.inside got.0).0 got.1.there).0.count))
+          (subst (λ l. slice_get (take (b.count - 128 * first) l) j ≡ Some n) is.1 at);
       are = λ image t stands agrees.
           let q = stands.parts in
           let look = slice_get image in
@@ -242,6 +251,9 @@ module _ (g : Geom) (slot : ℕ) (key : Key) (size : ℕ) (seen : SeenValue) (p 
             (body_is g (look_of seen) p key.object b reads has.sees.there).widths.address_count,
             small,
           );
+          seen_at = λ j n at.
+              let place : j ≡ 128 * first + j = omega (arith, zero-first) in
+              ap (block_seen p b) (sym place) ∙ small-seen p b j n small at;
           are = λ image t stands agrees.
               ap (λ t. take b.count (if t then b.addresses else flat_map (λ n. addresses_in (part_at stands.parts.ptrs n)) (ptrs_in b))) (sym test)
               ∙ ap (λ k. drop (128 * k) (blocks_in stands.parts b)) (sym zero-first);

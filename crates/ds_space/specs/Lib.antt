@@ -11,6 +11,7 @@ pub mod GrowWalk
 pub mod Holding
 pub mod InOrder
 pub mod ItemsWalk
+pub mod Laws
 pub mod LowestItems
 pub mod Ordered
 pub mod OrderedPairs
@@ -18,7 +19,9 @@ pub mod Ordering
 pub mod PagesWritten
 pub mod Redos
 pub mod RightSizes
+pub mod SeenBlocks
 pub mod Shrinking
+pub mod ShrinkWalk
 pub mod ShrunkFacts
 pub mod SizeTargets
 pub mod Sums

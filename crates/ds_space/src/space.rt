@@ -12,7 +12,7 @@ use crate::growing::growth_known;
 use crate::resized::{Resized, redo_of};
 use crate::shrinking::shrink_known;
 use ds_base::{Geom, Key, SlotNo};
-use ds_image::{Ask, Seen};
+use ds_image::{Ask, Plan, Seen};
 use ds_tree::{Call, CallOf, TreeReply};
 use std::marker::Model;
 
@@ -56,9 +56,9 @@ impl Space {
         }
     }
 
-    /// What the call needs next by what it has seen, or how it ends.
-    pub fn ask(&self, seen: &Seen) -> Ask
-        ensures { (p : Parts) → Reads self.now.geom (look_of seen.now) p → result ≡ answers_of self.now seen.now p }
+    fn asked(&self, seen: &Seen) -> Ask
+        ensures answer { (p : Parts) → Reads self.now.geom (look_of seen.now) p → result ≡ answers_of self.now seen.now p }
+        ensures geom { IsGeom self.now.geom }
     {
         match self.resized(seen) {
             Ok(resized) => Ask::Change(
@@ -81,4 +81,34 @@ impl Space {
         }
         shrink_known(&self.geom, seen, &body, self.size)
     }
+}
+
+impl Plan for Space {
+    ghost use Rattle.std.specs.Prelude.{◌≡◌};
+    ghost use Rattle.ds_image.specs.Parts.{Parts};
+    ghost use Rattle.ds_image.specs.Readings.{Reads};
+    ghost use Rattle.ds_image.specs.SeenValues.{look_of};
+    ghost use Rattle.ds_plans.specs.Locks.{IsAllowed};
+    ghost use Rattle.ds_space.specs.Answers.{answers_of, call_of};
+    ghost use Rattle.ds_space.specs.Laws.{space_keeps, space_few};
+
+    ghost geom = { λ plan. plan.geom };
+
+    ghost call = { call_of };
+
+    ghost answers = { answers_of };
+
+    /// What the call needs next by what it has seen, or how it ends.
+    #[tactic(auto, using(crate::specs::Laws::allowed_as))]
+    fn ask(&self, seen: &Seen) -> Ask
+        ensures answer { (p : Parts) → Reads self.now.geom (look_of seen.now) p → result ≡ answers_of self.now seen.now p }
+        ensures locks { (p : Parts) → Reads self.now.geom (look_of seen.now) p
+            → IsAllowed self.now.geom self.now.slot (call_of self.now) p result }
+    {
+        self.asked(seen)
+    }
+
+    ghost keeps = { space_keeps };
+
+    ghost few = { space_few };
 }

@@ -7,7 +7,7 @@ use ds_base::{Geom, Key, Kind, Name, NodeKind, Sector, SectorNo};
 use ds_bitmap::Bits;
 use ds_dir::{Entry, SubBlock};
 use ds_fd::Body;
-use ds_image::{Ask, Image, Seen, format, overlay, read_tree};
+use ds_image::{Ask, Image, Plan, Seen, format, overlay, read_tree};
 use ds_jrnl::Redo;
 use ds_layout::total;
 use ds_lun::MemLun;
