@@ -1,0 +1,4 @@
+pub mod FileFacts
+pub mod KnownSizes
+pub mod Padding
+pub mod PageLists

@@ -1,0 +1,15 @@
+//! The planner of Resize: how a file gets another size, lock by lock and sector by sector, and what is written then.
+#![tactic(auto)]
+
+mod blocks;
+mod files;
+mod growing;
+mod pages;
+mod resized;
+mod shrinking;
+mod space;
+mod taking;
+#[cfg(test)]
+mod tests;
+
+pub use space::Space;
