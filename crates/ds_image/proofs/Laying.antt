@@ -1,5 +1,7 @@
 -- Pairs laid over sectors, one list after another.
-use Rattle.std.proofs.Common.{◌≡◌, ℕ, ◌+◌, ◌<◌, ◌==◌, ⊎_elim, inl, inr, true, if◌then◌else◌, List, [], ◌∷◌, ◌++◌, length, take, drop, get_or, slice_get, slice_set, Option, Some, None, MatchOption, refl, sym, ap, subst, ◌∙◌, eq-eqb, ne_eqb, length-set, arith}
+use Rattle.std.proofs.Common.{◌≡◌, ℕ, ◌+◌, ◌<◌, ◌==◌, ⊎_elim, inl, inr, true, if◌then◌else◌, List, [], ◌∷◌, ◌++◌, length, take, drop, get_or, slice_get, slice_set, Option, Some, None, MatchOption, refl, sym, ap, subst, ◌∙◌, cond, eq-eqb, ne_eqb, length-set, arith}
+use Rattle.std.specs.BTreeMap.{is_at}
+use Rattle.std.specs.Ordering.{nat_cmp}
 use Rattle.std.proofs.lemmas.Bool.{cases_lt, cases_eq}
 use Rattle.std.proofs.lemmas.List.{length-map, length-take-le, append-nil, get_or_append_left, get_or_at, length_push, map_push, take_more, take_at}
 use Rattle.std.proofs.lemmas.List.Concat.{flat_map-append}
@@ -20,13 +22,15 @@ use Rattle.ds_marks.specs.declared.slot.Journal.TheVariants.{Committed}
 use Rattle.ds_image.specs.BadSectors.{HasNoBad}
 use Rattle.ds_image.specs.ImageValues.{IsImage}
 use Rattle.ds_image.specs.Laying.{Lays, IsCommitted, ArePendingBelow}
-use Rattle.ds_image.specs.Logical.{laid_over}
-use Rattle.ds_image.specs.Looks.{AreBlocks, IsBlock}
+use Rattle.ds_image.specs.Logical.{laid_over, IsLogical}
+use Rattle.ds_image.specs.Looks.{Look, AreBlocks, IsBlock}
 use Rattle.ds_image.specs.Metadata.{front_of}
 use Rattle.ds_image.specs.Pending.{Pair, IsIndexOf, AreJournalled, AreOfJournal, ArePending}
 use Rattle.ds_image.specs.Readings.{SpellsSlot}
+use Rattle.ds_image.specs.Replaced.{image_of}
 use Rattle.ds_image.proofs.BadSectors.{bad_index}
-use Rattle.ds_image.proofs.LaidOver.{slice_get-set, length-laid_over, laid_over-append}
+use Rattle.ds_image.proofs.LaidOver.{slice_get-set, laid_over-append}
+use Rattle.ds_image.proofs.Replacing.{length-replaced, replaced_none, replaced_set}
 
 -- what is at a place of a list with one more item
 pub got_push : {X : Type 0} (P : ℕ → X → Type 0) (xs : List X) (x : X) → ((k : ℕ) (y : X) → slice_get xs k ≡ Some y → P k y)
@@ -140,26 +144,44 @@ lays_slot g sectors n before mid after lays last =
       blocks = λ b. last.blocks (lays.blocks b);
     }
 
--- the sectors in front of the file blocks stay an image where pairs are laid over them
-pub image_laid : (Are : List Pair → Type 0) (g : Geom) (sectors front after : List Sector) → IsGeom g → length sectors ≡ total_of g
-    → front ≡ front_of g sectors → AreBlocks (slice_get front) → Lays Are front after → IsImage g after
-image_laid Are g sectors front after is size e blocks lays = record {
+-- one more pair of a journal, among those that are pending
+pub lays_put : (g : Geom) (sectors : List Sector) (slot : ℕ) (targets : List ℕ) (i : ℕ) (before : List Sector) (old new : Look) (s : Sector)
+    → i < length targets → slice_get sectors (place_sector g (places.Journal slot i)) ≡ Some s → IsBlock s.bytes
+    → ((q : ℕ) → new q ≡ cond (is_at (nat_cmp (get_or targets i 0)) q) (Some s) (old q))
+    → Lays (AreJournalled g sectors slot (take i targets)) before (image_of g sectors old)
+    → Lays (AreJournalled g sectors slot (take (i + 1) targets)) before (image_of g sectors new)
+lays_put g sectors slot targets i before old new s l got block sets lays =
+    subst (λ (ys : List Sector). Lays (AreJournalled g sectors slot (take (i + 1) targets)) before ys)
+    (sym (replaced_set old new (get_or targets i 0) s (front_of g sectors) sets))
+    (lays_more g sectors slot targets i before (image_of g sectors old) s l got block lays)
+
+-- where nothing was pending, what is pending after all slots makes an image of the sectors in front of the file blocks
+pub image_pending : (g : Geom) (sectors : List Sector) (old new : Look) → IsGeom g → length sectors ≡ total_of g → ((k : ℕ) → old k ≡ None)
+    → AreBlocks (slice_get (front_of g sectors)) → Lays (ArePendingBelow g sectors g.slots) (image_of g sectors old) (image_of g sectors new)
+    → IsImage g (image_of g sectors new)
+image_pending g sectors old new is size none blocks lays = record {
   is_geom = is;
-  size = ap length lays.laid ∙ length-laid_over front lays.pairs ∙ ap length e ∙ length-take-le (blocks_at g) sectors (omega (arith, size));
-  blocks = lays.blocks blocks;
+  size = length-replaced new 0 (front_of g sectors) ∙ length-take-le (blocks_at g) sectors (omega (arith, size));
+  blocks = lays.blocks (subst (λ (xs : List Sector). AreBlocks (slice_get xs)) (sym (replaced_none old 0 (front_of g sectors) none)) blocks);
 }
 
--- what is written through a slice of all items of a list
-pub items_after : {X : Type 0} (n : ℕ) (new old : List X) → length new ≡ n → take n (new ++ drop (length new) old) ≡ new
-items_after n new old e = take_at new (drop (length new) old) n e
+-- and that is the logical image
+pub logical_laid : (g : Geom) (sectors : List Sector) (old new : Look) → ((k : ℕ) → old k ≡ None)
+    → Lays (ArePendingBelow g sectors g.slots) (image_of g sectors old) (image_of g sectors new) → IsLogical g sectors (image_of g sectors new)
+logical_laid g sectors old new none lays = record {
+  pairs = lays.are.lists;
+  all_pending = record { one_each = lays.are.one_each; pending = lays.are.pending };
+  laid = lays.laid ∙ ap (laid_over (image_of g sectors old)) lays.are.joined
+      ∙ ap (λ xs. laid_over xs (flat_map (λ (list : List Pair). list) lays.are.lists)) (replaced_none old 0 (front_of g sectors) none);
+}
 
--- one more sector is copied
-pub front_more : (sectors xs : List Sector) (at : ℕ) (s : Sector) → xs ≡ take at sectors → slice_get sectors at ≡ Some s
-    → xs ++ s ∷ [] ≡ take (at + 1) sectors
-front_more sectors xs at s copied got =
-    ap (λ ys. ys ++ s ∷ []) copied
-    ∙ ap (λ t. take at sectors ++ t ∷ []) (sym (get_or_from_slice_get sectors at s s got))
-    ∙ sym (take_more sectors at s (slice_get_within sectors at s got))
+-- one more sector is read
+pub blocks_more : (sectors : List Sector) (at : ℕ) (s : Sector) → AreBlocks (slice_get (take at sectors)) → slice_get sectors at ≡ Some s → IsBlock s.bytes
+    → AreBlocks (slice_get (take (at + 1) sectors))
+blocks_more sectors at s before got block =
+    let more : take (at + 1) sectors ≡ take at sectors ++ s ∷ [] =
+    take_more sectors at s (slice_get_within sectors at s got) ∙ ap (λ t. take at sectors ++ t ∷ []) (get_or_from_slice_get sectors at s s got) in
+    subst (λ (xs : List Sector). AreBlocks (slice_get xs)) (sym more) (blocks_push (take at sectors) s before block)
 
 -- a volume has a first file block
 pub first_block : (g : Geom) → IsGeom g → (0 < items_of g Fb) × (0 < g.block)

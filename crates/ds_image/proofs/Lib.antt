@@ -20,6 +20,7 @@ pub mod OwningUsers
 pub mod Places
 pub mod OneLogical
 pub mod Readings
+pub mod Replacing
 pub mod Seeing
 pub mod Sizes
 pub mod Standing
@@ -38,6 +39,7 @@ pub mod ReadTrees
 pub mod RootedTrees
 pub mod RowsOfUsers
 pub mod SoundParts
+pub mod SpellingParts
 pub mod TreeParts
 pub mod TreesThatStand
 pub mod WalkingParents

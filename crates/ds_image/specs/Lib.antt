@@ -19,8 +19,10 @@ pub mod Parts
 pub mod Pending
 pub mod Planning
 pub mod Readings
+pub mod Replaced
 pub mod SeenValues
 pub mod Sound
+pub mod SpelledParts
 pub mod ListParents
 pub mod Listings
 pub mod Owned

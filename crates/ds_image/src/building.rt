@@ -14,12 +14,17 @@ ghost use Rattle.ds_tree.specs.WellFormed.{IsTree};
 
 use crate::listings::{blocks_of, copy_of_name, entries_in, subs_of};
 use crate::parts::PartsInMemory;
+use crate::stores::Store;
 use ds_base::{Geom, Key, NoMemory, NodeKind, ObjNo};
 use ds_tree::{Tree, TreeBuilder};
 use std::alloc::Global;
 
 /// The tree that the parts of an image spell.
-pub(crate) fn tree_of(alloc: Global, geom: &Geom, parts: &PartsInMemory) -> Result<Tree, NoMemory>
+pub(crate) fn tree_of<S: Store>(
+    alloc: Global,
+    geom: &Geom,
+    parts: &PartsInMemory<S>,
+) -> Result<Tree, NoMemory>
     requires geom { IsGeom geom.now }
     requires reads { (look : Look) × Reads geom.now look parts.now }
     requires sound { IsSound parts.now }
@@ -36,10 +41,10 @@ pub(crate) fn tree_of(alloc: Global, geom: &Geom, parts: &PartsInMemory) -> Resu
 }
 
 /// Puts an object where it belongs.
-fn put_object(
+fn put_object<S: Store>(
     alloc: Global,
     builder: &mut TreeBuilder,
-    parts: &PartsInMemory,
+    parts: &PartsInMemory<S>,
     object: ObjNo,
 ) -> Result<(), NoMemory>
     requires spelled { object < length parts.now.bodies }
@@ -69,10 +74,10 @@ fn put_object(
 }
 
 /// Puts a directory with the entries of its sub-blocks where it belongs.
-fn put_dir(
+fn put_dir<S: Store>(
     alloc: Global,
     builder: &mut TreeBuilder,
-    parts: &PartsInMemory,
+    parts: &PartsInMemory<S>,
     key: Key,
     subs: &[u32],
     rooms: u32,

@@ -13,13 +13,14 @@ ghost use Rattle.ds_image.specs.Parts.{Parts, part_at};
 ghost use Rattle.ds_image.specs.Readings.{SpellsBody, Reads};
 
 use crate::images::Image;
+use crate::stores::Store;
 use ds_base::{Geom, Kind, NodeKind, ObjNo, SectorNo};
 use ds_fd::Body;
 use ds_layout::{Place, place_of, sector_of};
 
 /// The lock object that protects a sector: a body's descriptor, a bitmap's cluster, and for a sub-block or a pointer block
 /// the least descriptor that lists it, or else its cluster. `None` where the sector is none of these.
-pub fn guard(image: &Image, at: SectorNo) -> Option<ObjNo>
+pub fn guard<S: Store>(image: &Image<S>, at: SectorNo) -> Option<ObjNo>
     ensures exact { IsDecoded result (IsGuard image.now.geom (slice_get image.now.sectors) at) }
     ensures metadata { IsSome result ↔ IsMetadata image.now.geom at }
 {
@@ -27,7 +28,7 @@ pub fn guard(image: &Image, at: SectorNo) -> Option<ObjNo>
     guard_of(image, &place)
 }
 
-fn guard_of(image: &Image, place: &Place) -> Option<ObjNo>
+fn guard_of<S: Store>(image: &Image<S>, place: &Place) -> Option<ObjNo>
     requires { IsPlace image.now.geom place.now }
     ensures { (p : Parts) → Reads image.now.geom (slice_get image.now.sectors) p
         → result ≡ guard_of image.now.geom p place.now }
@@ -66,7 +67,7 @@ fn cluster_lock(kind: Kind, cluster: u32) -> ObjNo
 }
 
 /// The least descriptor of the kind that lists the item, or else this cluster.
-fn lister_or(image: &Image, kind: NodeKind, n: u32, cluster: ObjNo) -> ObjNo
+fn lister_or<S: Store>(image: &Image<S>, kind: NodeKind, n: u32, cluster: ObjNo) -> ObjNo
     ensures { (p : Parts) → Reads image.now.geom (slice_get image.now.sectors) p
         → result ≡ lister_or (listed_lists kind p) n cluster }
 {
@@ -86,7 +87,7 @@ fn descriptors(geom: &Geom) -> u32
 }
 
 /// Whether a descriptor is of the kind and lists the item.
-fn lists(image: &Image, kind: NodeKind, object: ObjNo, n: u32) -> bool
+fn lists<S: Store>(image: &Image<S>, kind: NodeKind, object: ObjNo, n: u32) -> bool
     requires { object < items_of image.now.geom Kind.Fd }
     ensures { (p : Parts) → Reads image.now.geom (slice_get image.now.sectors) p
         → result ≡ list_any (λ x. x == n) (listed_of kind (part_at p.bodies object)) }
@@ -98,12 +99,12 @@ fn lists(image: &Image, kind: NodeKind, object: ObjNo, n: u32) -> bool
 }
 
 /// The body that a descriptor's sector spells.
-fn body_at(image: &Image, object: ObjNo) -> Option<Body>
+fn body_at<S: Store>(image: &Image<S>, object: ObjNo) -> Option<Body>
     requires { object < items_of image.now.geom Kind.Fd }
     ensures { IsDecoded result (SpellsBody image.now.geom (slice_get image.now.sectors) object) }
 {
     let sector = image.sector(sector_of(image.geom(), &Place::Body(object)))?;
-    Body::decode(object, sector)
+    Body::decode(object, &sector)
 }
 
 /// The items that a body of the kind lists; any other lists none.

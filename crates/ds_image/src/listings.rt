@@ -7,9 +7,11 @@ ghost use Rattle.ds_image.specs.Parts.{part_at};
 ghost use Rattle.ds_image.specs.Listings.{named_by, listed_by};
 
 use crate::parts::PartsInMemory;
+use crate::stores::Store;
 use ds_base::{Name, NoMemory, NodeKind};
-use ds_dir::Entry;
+use ds_dir::{Entry, SubBlock};
 use ds_fd::Body;
+use ds_ptr::PtrBlock;
 use std::alloc::Global;
 
 /// What a descriptor may list: a directory its sub-blocks and, in their entries, objects; a file its pointer blocks and its
@@ -23,9 +25,9 @@ pub enum Listed {
 }
 
 /// What a descriptor lists.
-pub(crate) fn list_of(
+pub(crate) fn list_of<S: Store>(
     alloc: Global,
-    parts: &PartsInMemory,
+    parts: &PartsInMemory<S>,
     what: Listed,
     body: &Option<Body>,
 ) -> Result<Vec<u32>, NoMemory>
@@ -89,31 +91,36 @@ fn pointer_blocks(count: u32) -> usize
 }
 
 /// The addresses in pointer blocks, one block after another.
-pub fn pointed_by(alloc: Global, parts: &PartsInMemory, ptrs: &[u32]) -> Result<Vec<u32>, NoMemory>
+pub fn pointed_by<S: Store>(
+    alloc: Global,
+    parts: &PartsInMemory<S>,
+    ptrs: &[u32],
+) -> Result<Vec<u32>, NoMemory>
     ensures { IfOk result (λ v. v.items ≡ flat_map (λ n. addresses_in (part_at parts.now.ptrs n)) ptrs.now) }
 {
     let mut addresses = Vec::new(alloc);
     for number in ptrs {
+        let block = parts.ptr(*number);
         addresses
-            .extend_from_slice(addresses_in(parts, *number))
+            .extend_from_slice(addresses_in(&block))
             .map_err(|_| NoMemory)?;
     }
     Ok(addresses)
 }
 
-fn addresses_in(parts: &PartsInMemory, number: u32) -> &[u32]
-    ensures { result.now ≡ addresses_in (part_at parts.now.ptrs number) }
+fn addresses_in(block: &Option<PtrBlock>) -> &[u32]
+    ensures { result.now ≡ addresses_in block.now }
 {
-    match parts.ptrs().get(number as usize) {
-        Some(Some(block)) => &block.addresses,
-        _ => &[],
+    match block {
+        Some(block) => &block.addresses,
+        None => &[],
     }
 }
 
 /// The blocks of a file; none of anything else.
-pub fn blocks_of(
+pub fn blocks_of<S: Store>(
     alloc: Global,
-    parts: &PartsInMemory,
+    parts: &PartsInMemory<S>,
     body: &Option<Body>,
 ) -> Result<Vec<u32>, NoMemory>
     ensures { IfOk result (λ v. v.items ≡ blocks_of parts.now body.now) }
@@ -134,7 +141,11 @@ pub fn blocks_of(
 }
 
 /// The objects that a directory names; none of anything else.
-fn named_by(alloc: Global, parts: &PartsInMemory, body: &Option<Body>) -> Result<Vec<u32>, NoMemory>
+fn named_by<S: Store>(
+    alloc: Global,
+    parts: &PartsInMemory<S>,
+    body: &Option<Body>,
+) -> Result<Vec<u32>, NoMemory>
     ensures { IfOk result (λ v. v.items ≡ named_by parts.now body.now) }
 {
     let entries = entries_in(alloc, parts, subs_of(body))?;
@@ -146,26 +157,27 @@ fn named_by(alloc: Global, parts: &PartsInMemory, body: &Option<Body>) -> Result
 }
 
 /// The entries in the used rooms of sub-blocks.
-pub(crate) fn entries_in(
+pub(crate) fn entries_in<S: Store>(
     alloc: Global,
-    parts: &PartsInMemory,
+    parts: &PartsInMemory<S>,
     subs: &[u32],
 ) -> Result<Vec<Entry>, NoMemory>
     ensures { IfOk result (λ v. v.items ≡ used_rooms parts.now subs.now) }
 {
     let mut entries = Vec::new(alloc);
     for number in subs {
-        push_entries(&mut entries, rooms_in(parts, *number))?;
+        let block = parts.sub(*number);
+        push_entries(&mut entries, rooms_in(&block))?;
     }
     Ok(entries)
 }
 
-fn rooms_in(parts: &PartsInMemory, number: u32) -> &[Option<Entry>]
-    ensures { result.now ≡ rooms_in (part_at parts.now.subs number) }
+fn rooms_in(block: &Option<SubBlock>) -> &[Option<Entry>]
+    ensures { result.now ≡ rooms_in block.now }
 {
-    match parts.subs().get(number as usize) {
-        Some(Some(block)) => &block.rooms,
-        _ => &[],
+    match block {
+        Some(block) => &block.rooms,
+        None => &[],
     }
 }
 

@@ -1,5 +1,7 @@
 //! The logical image of a device.
-ghost use Rattle.std.specs.Prelude.{All, List, ◌≡◌, ◌<◌, ◌≤◌, [], Some, MatchOption, IfOk, IfErr, OnOk, slice_get, length};
+ghost use Rattle.std.specs.Prelude.{List, ◌≡◌, ◌<◌, ◌≤◌, [], Some, MatchOption, IfOk, IfErr, OnOk, slice_get, length, take};
+ghost use Rattle.std.specs.BTreeMap.{get};
+ghost use Rattle.std.specs.Ordering.{nat_cmp};
 ghost use Rattle.ds_base.specs.Geometry.{IsGeom};
 ghost use Rattle.ds_base.specs.declared.sectors.Sector.{Sector};
 ghost use Rattle.ds_layout.specs.Places.{blocks_at, total_of};
@@ -8,22 +10,28 @@ ghost use Rattle.ds_image.specs.Faults.{IsFaultOf};
 ghost use Rattle.ds_image.specs.Laying.{Lays, IsCommitted, ArePendingBelow};
 ghost use Rattle.ds_image.specs.Logical.{IsLogical};
 ghost use Rattle.ds_image.specs.Looks.{AreBlocks, IsBlock};
-ghost use Rattle.ds_image.specs.Metadata.{IsMetadata, front_of};
+ghost use Rattle.ds_image.specs.Metadata.{front_of};
 ghost use Rattle.ds_image.specs.Pending.{ArePending, AreJournalled};
+ghost use Rattle.ds_image.specs.Replaced.{image_of};
 
 use crate::bad_sectors::least_bad;
 use crate::images::{Image, ImageFault};
 use crate::reads::{index_of, slot_at};
 use crate::stores::Store;
-use ds_base::{Geom, Sector, SectorNo, SlotNo};
+use ds_base::{Geom, NoMemory, Sector, SectorNo, SlotNo};
 use ds_jrnl::Index;
 use ds_layout::{Place, sector_of};
 use ds_marks::Journal;
 use std::alloc::Global;
+use std::collections::BTreeMap;
 
 /// The logical image of a store that holds a volume, which is the only one: its metadata with the pending pairs of all slots laid
 /// over them.
-pub fn overlay<S: Store>(alloc: Global, geom: &Geom, store: &S) -> Result<Image, ImageFault>
+pub fn overlay<'a, S: Store>(
+    alloc: Global,
+    geom: &Geom,
+    store: &'a S,
+) -> Result<Image<'a, S>, ImageFault>
     requires geom { IsGeom geom.now }
     requires size { length (S.sectors store.now) ≡ total_of geom.now }
     ensures geom { IfOk result (λ image. image.geom ≡ geom.now) }
@@ -36,7 +44,11 @@ pub fn overlay<S: Store>(alloc: Global, geom: &Geom, store: &S) -> Result<Image,
     overlaid(alloc, geom, store)
 }
 
-fn overlaid<S: Store>(alloc: Global, geom: &Geom, store: &S) -> Result<Image, ImageFault>
+fn overlaid<'a, S: Store>(
+    alloc: Global,
+    geom: &Geom,
+    store: &'a S,
+) -> Result<Image<'a, S>, ImageFault>
     requires geom { IsGeom geom.now }
     requires size { length (S.sectors store.now) ≡ total_of geom.now }
     ensures geom { IfOk result (λ image. image.geom ≡ geom.now) }
@@ -48,34 +60,23 @@ fn overlaid<S: Store>(alloc: Global, geom: &Geom, store: &S) -> Result<Image, Im
     if let Some(sector) = least_bad(geom, store, end) {
         return Err(ImageFault::Bad { sector });
     }
-    let mut sectors = front(alloc, geom, store, end)?;
-    lay_all(geom, store, &mut sectors);
-    Ok(Image::of_sectors(geom, sectors))
+    read_front(store, end);
+    let mut pending = BTreeMap::new(alloc);
+    lay_all(geom, store, &mut pending).map_err(|_| ImageFault::NoMemory)?;
+    Ok(Image::with_pending(geom, store, pending))
 }
 
-/// The sectors of a device in front of the file blocks, which begin at `end`.
-fn front<S: Store>(
-    alloc: Global,
-    geom: &Geom,
-    store: &S,
-    end: SectorNo,
-) -> Result<Vec<Sector>, ImageFault>
-    requires size { length (S.sectors store.now) ≡ total_of geom.now }
-    requires end { end ≡ blocks_at geom.now }
-    ensures front { IfOk result (λ sectors. sectors.items ≡ front_of geom.now (S.sectors store.now)) }
-    ensures blocks { IfOk result (λ sectors. AreBlocks (slice_get sectors.items)) }
-    ensures fault { IfErr result (λ fault. fault ≡ ImageFault.NoMemory) }
+/// Reads the sectors up to this one, which shows that they have 512 bytes each.
+fn read_front<S: Store>(store: &S, end: SectorNo)
+    requires { end ≤ length (S.sectors store.now) }
+    ensures { AreBlocks (slice_get (take end (S.sectors store.now))) }
 {
-    let mut sectors = Vec::with_capacity(alloc, end as usize).map_err(|_| ImageFault::NoMemory)?;
     for at in 0..end {
-        sectors
-            .push(block_at(store, at))
-            .map_err(|_| ImageFault::NoMemory)?;
+        let _sector = block_at(store, at);
     }
-    Ok(sectors)
 }
 
-/// A sector of a device.
+/// A sector of a store.
 fn block_at<S: Store>(store: &S, at: SectorNo) -> Sector
     requires { at < length (S.sectors store.now) }
     ensures here { slice_get (S.sectors store.now) at ≡ Some result }
@@ -87,30 +88,43 @@ fn block_at<S: Store>(store: &S, at: SectorNo) -> Sector
     sector
 }
 
-/// Lays the pending pairs of all slots over the sectors, in the order of the slots.
-fn lay_all<S: Store>(geom: &Geom, store: &S, sectors: &mut [Sector])
+/// Lays the pending pairs of all slots over what is pending, in the order of the slots.
+fn lay_all<S: Store>(
+    geom: &Geom,
+    store: &S,
+    pending: &mut BTreeMap<SectorNo, Sector>,
+) -> Result<(), NoMemory>
     requires geom { IsGeom geom.now }
     requires size { length (S.sectors store.now) ≡ total_of geom.now }
     requires good { HasNoBad geom.now (S.sectors store.now) }
-    requires front { length sectors.old ≡ blocks_at geom.now }
-    ensures { Lays (ArePendingBelow geom.now (S.sectors store.now) geom.now.slots) sectors.old sectors.new }
+    ensures { OnOk result (Lays (ArePendingBelow geom.now (S.sectors store.now) geom.now.slots)
+        (image_of geom.now (S.sectors store.now) (get nat_cmp pending.old))
+        (image_of geom.now (S.sectors store.now) (get nat_cmp pending.new))) }
 {
     for number in 0..geom.slots {
-        lay_slot(geom, store, number, sectors);
+        lay_slot(geom, store, number, pending)?;
     }
+    Ok(())
 }
 
-/// Lays the pending pairs of a slot over the sectors.
-fn lay_slot<S: Store>(geom: &Geom, store: &S, number: SlotNo, sectors: &mut [Sector])
+/// Lays the pending pairs of a slot over what is pending.
+fn lay_slot<S: Store>(
+    geom: &Geom,
+    store: &S,
+    number: SlotNo,
+    pending: &mut BTreeMap<SectorNo, Sector>,
+) -> Result<(), NoMemory>
     requires geom { IsGeom geom.now }
     requires size { length (S.sectors store.now) ≡ total_of geom.now }
     requires inside { number < geom.now.slots }
     requires good { HasNoBad geom.now (S.sectors store.now) }
-    requires front { length sectors.old ≡ blocks_at geom.now }
-    ensures { Lays (ArePending geom.now (S.sectors store.now) number) sectors.old sectors.new }
+    ensures { OnOk result (Lays (ArePending geom.now (S.sectors store.now) number)
+        (image_of geom.now (S.sectors store.now) (get nat_cmp pending.old))
+        (image_of geom.now (S.sectors store.now) (get nat_cmp pending.new))) }
 {
-    if let Some(index) = pending_index(geom, store, number) {
-        lay_journal(geom, store, number, index.targets.as_slice(), sectors);
+    match pending_index(geom, store, number) {
+        None => Ok(()),
+        Some(index) => lay_journal(geom, store, number, index.targets.as_slice(), pending),
     }
 }
 
@@ -136,27 +150,29 @@ fn pending_index<S: Store>(geom: &Geom, store: &S, number: SlotNo) -> Option<Ind
     }
 }
 
-/// Lays over the sectors, at these targets, the sectors of a slot's journal.
+/// Lays over what is pending, at these targets, the sectors of a slot's journal.
 fn lay_journal<S: Store>(
     geom: &Geom,
     store: &S,
     slot: SlotNo,
     targets: &[u32],
-    sectors: &mut [Sector],
-)
+    pending: &mut BTreeMap<SectorNo, Sector>,
+) -> Result<(), NoMemory>
     requires geom { IsGeom geom.now }
     requires size { length (S.sectors store.now) ≡ total_of geom.now }
     requires inside { slot < geom.now.slots }
     requires few { length targets.now ≤ 31 }
-    requires metadata { All (IsMetadata geom.now) targets.now }
-    requires front { length sectors.old ≡ blocks_at geom.now }
-    ensures { Lays (AreJournalled geom.now (S.sectors store.now) slot targets.now) sectors.old sectors.new }
+    ensures { OnOk result (Lays (AreJournalled geom.now (S.sectors store.now) slot targets.now)
+        (image_of geom.now (S.sectors store.now) (get nat_cmp pending.old))
+        (image_of geom.now (S.sectors store.now) (get nat_cmp pending.new))) }
 {
     for (i, target) in targets.iter().enumerate() {
         let place = Place::Journal {
             slot,
             index: i as u8,
         };
-        sectors[*target as usize] = block_at(store, sector_of(geom, &place));
+        let sector = block_at(store, sector_of(geom, &place));
+        pending.insert(*target, sector).map_err(|_| NoMemory)?;
     }
+    Ok(())
 }

@@ -130,7 +130,7 @@ fn volume(alloc: Global) -> Result<MemLun, Fail> {
 }
 
 /// The logical image, where the device is as large as the volume.
-fn image_of(alloc: Global, lun: &MemLun) -> Result<Image, ImageFault> {
+fn image_of(alloc: Global, lun: &MemLun) -> Result<Image<MemLun>, ImageFault> {
     if SMALL.check().is_err() || lun.len() != total(&SMALL) {
         return Err(ImageFault::NoMemory);
     }
@@ -144,24 +144,17 @@ fn pending_pairs_show_in_the_image(rt: HostRuntime) -> Result<(), Fail> {
     commit(&mut lun, 0, &[77, 80], 100);
     let image = image_of(alloc, &lun)?;
     for (at, byte) in [(77, 100), (80, 101), (79, 79), (81, 81), (69, 69), (83, 83)] {
-        assert_eq!(rt;
-            image.sector(at).copied(),
-            Some(filled(byte)),
-            "sector {at}"
-        );
+        assert_eq!(rt; image.sector(at), Some(filled(byte)), "sector {at}");
     }
     for at in [0, 2, 4, 67, 68, 76, 78, 84, 85, 86, u32::MAX] {
         assert_eq!(rt; image.sector(at), None, "sector {at}");
     }
+    drop(image);
     // Where both slots write a sector, the pair of the later one stays.
     commit(&mut lun, 1, &[77, 81], 110);
     let image = image_of(alloc, &lun)?;
     for (at, byte) in [(77, 110), (80, 101), (81, 111)] {
-        assert_eq!(rt;
-            image.sector(at).copied(),
-            Some(filled(byte)),
-            "sector {at}"
-        );
+        assert_eq!(rt; image.sector(at), Some(filled(byte)), "sector {at}");
     }
     Ok(())
 }
@@ -231,6 +224,7 @@ fn the_least_descriptor_guards_what_it_lists(rt: HostRuntime) -> Result<(), Fail
     for (at, object) in unlisted {
         assert_eq!(rt; guard(&image, at), object, "sector {at}");
     }
+    drop(image);
     put_body(&mut lun, 0, NodeKind::Dir, 1, &[1]);
     put_body(&mut lun, 1, NodeKind::Dir, 2, &[0, 1]);
     let image = image_of(alloc, &lun)?;
@@ -242,6 +236,7 @@ fn the_least_descriptor_guards_what_it_lists(rt: HostRuntime) -> Result<(), Fail
     ] {
         assert_eq!(rt; guard(&image, at), object, "sector {at}");
     }
+    drop(image);
     // A file of 97 blocks lists a pointer block; a file of 96 lists none.
     put_body(&mut lun, 0, NodeKind::File, 96, &[0; 96]);
     put_body(&mut lun, 1, NodeKind::File, 97, &[1]);

@@ -7,14 +7,15 @@ ghost use Rattle.ds_image.specs.Parts.{bits_in, used_bits};
 use crate::listings::{Listed, list_of};
 use crate::marks::Marks;
 use crate::parts::PartsInMemory;
+use crate::stores::Store;
 use ds_base::NoMemory;
 use ds_bitmap::Bits;
 use std::alloc::Global;
 
 /// Whether no item is listed twice, and a bit is set exactly where an item is listed.
-pub(crate) fn owns(
+pub(crate) fn owns<S: Store>(
     alloc: Global,
-    parts: &PartsInMemory,
+    parts: &PartsInMemory<S>,
     what: Listed,
     bits: &[bool],
 ) -> Result<bool, NoMemory>

@@ -3,10 +3,12 @@ ghost use Rattle.std.specs.Prelude.{◌≡◌, ◌<◌, slice_get, IfOk};
 ghost use Rattle.ds_base.specs.Decoding.{IsDecoded};
 ghost use Rattle.ds_base.specs.Geometry.{IsGeom, clusters_of, items_of};
 ghost use Rattle.ds_base.specs.declared.geometry.Kind.TheVariants as kinds;
-ghost use Rattle.ds_image.specs.Parts.{maps_of};
+ghost use Rattle.ds_image.specs.ImageValues.{IsImage};
+ghost use Rattle.ds_image.specs.Parts.{maps_of, part_at};
 ghost use Rattle.ds_image.specs.Readings.{SpellsBody, SpellsBits, SpellsSub, SpellsPtr, IsReading, Reads};
 
 use crate::images::Image;
+use crate::stores::Store;
 use ds_base::{Geom, Kind, NoMemory, ObjNo};
 use ds_bitmap::Bits;
 use ds_dir::SubBlock;
@@ -16,20 +18,22 @@ use ds_ptr::PtrBlock;
 use std::alloc::Global;
 use std::marker::Model;
 
-/// What the metadata of an image spell, by number, with nothing where a sector spells nothing.
+/// What the metadata of an image spell, by number, with nothing where a sector spells nothing. Bodies and bitmaps are kept, and a
+/// sub-block or a pointer block is decoded where it is asked for.
 #[derive(Drop)]
-pub struct PartsInMemory {
+pub struct PartsInMemory<'a, S: Store> {
+    image: &'a Image<'a, S>,
     bodies: Vec<Option<Body>>,
     fd_maps: Vec<Option<Bits>>,
     sb_maps: Vec<Option<Bits>>,
     pb_maps: Vec<Option<Bits>>,
     fb_maps: Vec<Option<Bits>>,
-    subs: Vec<Option<SubBlock>>,
-    ptrs: Vec<Option<PtrBlock>>,
+    ghost whole: { IsImage image.now.geom image.now.sectors },
 }
 
-impl Model for PartsInMemory {
+impl<'a, S: Store> Model for PartsInMemory<'a, S> {
     ghost use Rattle.ds_image.specs.Parts.{Parts};
+    ghost use Rattle.ds_image.specs.SpelledParts.{spelled_subs, spelled_ptrs};
 
     ghost Value = { Parts };
 
@@ -39,31 +43,30 @@ impl Model for PartsInMemory {
       sb_maps = p.sb_maps.items;
       pb_maps = p.pb_maps.items;
       fb_maps = p.fb_maps.items;
-      subs = p.subs.items;
-      ptrs = p.ptrs.items;
+      subs = spelled_subs p.image.now.geom p.image.now.sectors p.whole;
+      ptrs = spelled_ptrs p.image.now.geom p.image.now.sectors p.whole;
     } };
 }
 
-impl PartsInMemory {
-    /// Decodes all bodies, bitmaps, sub-blocks and pointer blocks of an image.
-    pub fn read(alloc: Global, image: &Image) -> Result<PartsInMemory, NoMemory>
+impl<'a, S: Store> PartsInMemory<'a, S> {
+    /// Decodes all bodies and bitmaps of an image.
+    pub fn read(alloc: Global, image: &'a Image<'a, S>) -> Result<PartsInMemory<'a, S>, NoMemory>
         ensures { IfOk result (λ p. Reads image.now.geom (slice_get image.now.sectors) p) }
     {
+        // This shows that the image has all sectors in front of the file blocks.
+        let _geom = image.geom();
         let bodies = bodies_of(alloc, image)?;
         let fd_maps = maps_of(alloc, image, Kind::Fd)?;
         let sb_maps = maps_of(alloc, image, Kind::Sb)?;
         let pb_maps = maps_of(alloc, image, Kind::Pb)?;
         let fb_maps = maps_of(alloc, image, Kind::Fb)?;
-        let subs = subs_of(alloc, image)?;
-        let ptrs = ptrs_of(alloc, image)?;
         Ok(PartsInMemory {
+            image,
             bodies,
             fd_maps,
             sb_maps,
             pb_maps,
             fb_maps,
-            subs,
-            ptrs,
         })
     }
 
@@ -85,20 +88,32 @@ impl PartsInMemory {
         }
     }
 
-    pub fn subs(&self) -> &[Option<SubBlock>]
-        ensures { result.now ≡ self.now.subs }
+    /// A sub-block; none past the last, or where its sector spells none.
+    pub fn sub(&self, number: u32) -> Option<SubBlock>
+        ensures { result ≡ part_at self.now.subs number }
     {
-        self.subs.as_slice()
+        let image = self.image;
+        if number < items_of_kind(image.geom(), Kind::Sb) {
+            sub_of(image, number)
+        } else {
+            None
+        }
     }
 
-    pub fn ptrs(&self) -> &[Option<PtrBlock>]
-        ensures { result.now ≡ self.now.ptrs }
+    /// A pointer block; none past the last.
+    pub fn ptr(&self, number: u32) -> Option<PtrBlock>
+        ensures { result ≡ part_at self.now.ptrs number }
     {
-        self.ptrs.as_slice()
+        let image = self.image;
+        if number < items_of_kind(image.geom(), Kind::Pb) {
+            ptr_of(image, number)
+        } else {
+            None
+        }
     }
 }
 
-fn bodies_of(alloc: Global, image: &Image) -> Result<Vec<Option<Body>>, NoMemory>
+fn bodies_of<S: Store>(alloc: Global, image: &Image<S>) -> Result<Vec<Option<Body>>, NoMemory>
     ensures { IfOk result (λ v. IsReading (items_of image.now.geom kinds.Fd)
         (SpellsBody image.now.geom (slice_get image.now.sectors)) v.items) }
 {
@@ -110,7 +125,11 @@ fn bodies_of(alloc: Global, image: &Image) -> Result<Vec<Option<Body>>, NoMemory
     Ok(bodies)
 }
 
-fn maps_of(alloc: Global, image: &Image, kind: Kind) -> Result<Vec<Option<Bits>>, NoMemory>
+fn maps_of<S: Store>(
+    alloc: Global,
+    image: &Image<S>,
+    kind: Kind,
+) -> Result<Vec<Option<Bits>>, NoMemory>
     ensures { IfOk result (λ v. IsReading (clusters_of image.now.geom kind)
         (SpellsBits image.now.geom (slice_get image.now.sectors) kind) v.items) }
 {
@@ -123,67 +142,43 @@ fn maps_of(alloc: Global, image: &Image, kind: Kind) -> Result<Vec<Option<Bits>>
     Ok(maps)
 }
 
-fn subs_of(alloc: Global, image: &Image) -> Result<Vec<Option<SubBlock>>, NoMemory>
-    ensures { IfOk result (λ v. IsReading (items_of image.now.geom kinds.Sb)
-        (SpellsSub image.now.geom (slice_get image.now.sectors)) v.items) }
-{
-    let count = items_of_kind(image.geom(), Kind::Sb);
-    let mut subs = Vec::with_capacity(alloc, count as usize).map_err(|_| NoMemory)?;
-    for number in 0..count {
-        subs.push(sub_of(image, number)).map_err(|_| NoMemory)?;
-    }
-    Ok(subs)
-}
-
-fn ptrs_of(alloc: Global, image: &Image) -> Result<Vec<Option<PtrBlock>>, NoMemory>
-    ensures { IfOk result (λ v. IsReading (items_of image.now.geom kinds.Pb)
-        (SpellsPtr image.now.geom (slice_get image.now.sectors)) v.items) }
-{
-    let count = items_of_kind(image.geom(), Kind::Pb);
-    let mut ptrs = Vec::with_capacity(alloc, count as usize).map_err(|_| NoMemory)?;
-    for number in 0..count {
-        ptrs.push(ptr_of(image, number)).map_err(|_| NoMemory)?;
-    }
-    Ok(ptrs)
-}
-
 /// The body that a descriptor's sector spells.
 #[tactic(auto, using(crate::proofs::Decoded::numbered_at))]
-fn body_of(image: &Image, object: ObjNo) -> Option<Body>
+fn body_of<S: Store>(image: &Image<S>, object: ObjNo) -> Option<Body>
     requires { object < items_of image.now.geom kinds.Fd }
     ensures { IsDecoded result (SpellsBody image.now.geom (slice_get image.now.sectors) object) }
 {
     let sector = image.sector_at(&Place::Body(object));
-    Body::decode(object, sector)
+    Body::decode(object, &sector)
 }
 
 /// The bitmap that a cluster's sector spells.
 #[tactic(auto, using(crate::proofs::Decoded::spelled_at))]
-fn bits_of(image: &Image, kind: Kind, cluster: u8) -> Option<Bits>
+fn bits_of<S: Store>(image: &Image<S>, kind: Kind, cluster: u8) -> Option<Bits>
     requires { cluster < clusters_of image.now.geom kind }
     ensures { IsDecoded result (SpellsBits image.now.geom (slice_get image.now.sectors) kind cluster) }
 {
     let sector = image.sector_at(&Place::Bitmap { kind, cluster });
-    Bits::decode(image.geom(), kind, cluster, sector)
+    Bits::decode(image.geom(), kind, cluster, &sector)
 }
 
 /// The sub-block that a sector spells.
 #[tactic(auto, using(crate::proofs::Decoded::spelled_at))]
-fn sub_of(image: &Image, number: u32) -> Option<SubBlock>
+fn sub_of<S: Store>(image: &Image<S>, number: u32) -> Option<SubBlock>
     requires { number < items_of image.now.geom kinds.Sb }
     ensures { IsDecoded result (SpellsSub image.now.geom (slice_get image.now.sectors) number) }
 {
     let sector = image.sector_at(&Place::SubBlock(number));
-    SubBlock::decode(sector)
+    SubBlock::decode(&sector)
 }
 
 /// The pointer block that a sector spells.
-fn ptr_of(image: &Image, number: u32) -> Option<PtrBlock>
+fn ptr_of<S: Store>(image: &Image<S>, number: u32) -> Option<PtrBlock>
     requires { number < items_of image.now.geom kinds.Pb }
     ensures { IsDecoded result (SpellsPtr image.now.geom (slice_get image.now.sectors) number) }
 {
     let sector = image.sector_at(&Place::PtrBlock(number));
-    Some(PtrBlock::decode(sector))
+    Some(PtrBlock::decode(&sector))
 }
 
 fn clusters_of_kind(geom: &Geom, kind: Kind) -> u8

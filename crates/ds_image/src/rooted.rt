@@ -26,12 +26,13 @@ use crate::owners::owns;
 use crate::parents::reached;
 use crate::parts::PartsInMemory;
 use crate::soundness::{is_used, used_of};
+use crate::stores::Store;
 use ds_base::{NoMemory, NodeKind};
 use ds_fd::Body;
 use std::alloc::Global;
 
 /// Whether the root is there, each used object but it has exactly one name, and all are reached from it.
-pub(crate) fn is_rooted(alloc: Global, parts: &PartsInMemory) -> Result<bool, NoMemory>
+pub(crate) fn is_rooted<S: Store>(alloc: Global, parts: &PartsInMemory<S>) -> Result<bool, NoMemory>
     requires read { AreRead parts.now }
     requires sound { IsSound parts.now }
     ensures { IfOk result (λ yes. IsTrue yes ↔ IsRooted parts.now) }
@@ -49,7 +50,7 @@ pub(crate) fn is_rooted(alloc: Global, parts: &PartsInMemory) -> Result<bool, No
 }
 
 /// For each descriptor, whether it is in use and not the root.
-fn named_bits(alloc: Global, parts: &PartsInMemory) -> Result<Vec<bool>, NoMemory>
+fn named_bits<S: Store>(alloc: Global, parts: &PartsInMemory<S>) -> Result<Vec<bool>, NoMemory>
     ensures { IfOk result (λ v. v.items ≡ named_bits parts.now) }
 {
     let mut named = used_of(alloc, parts.bodies())?;
@@ -60,7 +61,7 @@ fn named_bits(alloc: Global, parts: &PartsInMemory) -> Result<Vec<bool>, NoMemor
 }
 
 /// Whether object 0 is a directory with birth 1.
-fn has_root(parts: &PartsInMemory) -> bool
+fn has_root<S: Store>(parts: &PartsInMemory<S>) -> bool
     ensures { IsTrue result ↔ HasRoot parts.now }
 {
     match parts.bodies().get(0) {
@@ -70,7 +71,10 @@ fn has_root(parts: &PartsInMemory) -> bool
 }
 
 /// For each object the directory that names it.
-fn parents_of(alloc: Global, parts: &PartsInMemory) -> Result<Vec<Option<u32>>, NoMemory>
+fn parents_of<S: Store>(
+    alloc: Global,
+    parts: &PartsInMemory<S>,
+) -> Result<Vec<Option<u32>>, NoMemory>
     requires read { AreRead parts.now }
     requires named { Owns (lists_by parts.now listed.Names) (named_bits parts.now) }
     ensures count { IfOk result (λ v. length v.items ≡ length parts.now.bodies) }

@@ -6,6 +6,7 @@ ghost use Rattle.ds_image.specs.SoundObjects.{AreNamesApart, count_in, IsSoundOb
 
 use crate::listings::{copy_of_name, entries_in, pointed_by, ptrs_of, subs_of};
 use crate::parts::PartsInMemory;
+use crate::stores::Store;
 use ds_base::NoMemory;
 use ds_dir::Entry;
 use ds_fd::Body;
@@ -13,7 +14,10 @@ use std::alloc::Global;
 use std::collections::BTreeSet;
 
 /// Whether each descriptor says what agrees with the other parts.
-pub(crate) fn are_sound_objects(alloc: Global, parts: &PartsInMemory) -> Result<bool, NoMemory>
+pub(crate) fn are_sound_objects<S: Store>(
+    alloc: Global,
+    parts: &PartsInMemory<S>,
+) -> Result<bool, NoMemory>
     ensures { IfOk result (λ yes. IsTrue yes ↔ ((o : ℕ) → IsSoundObject parts.now (part_at parts.now.bodies o))) }
 {
     let bodies = parts.bodies();
@@ -25,16 +29,16 @@ pub(crate) fn are_sound_objects(alloc: Global, parts: &PartsInMemory) -> Result<
     Ok(true)
 }
 
-fn is_sound_object(
+fn is_sound_object<S: Store>(
     alloc: Global,
-    parts: &PartsInMemory,
+    parts: &PartsInMemory<S>,
     body: &Option<Body>,
 ) -> Result<bool, NoMemory>
     ensures { IfOk result (λ yes. IsTrue yes ↔ IsSoundObject parts.now body.now) }
 {
     let subs = subs_of(body);
     let ptrs = ptrs_of(body);
-    if !are_spelled(parts.subs(), subs) || !are_spelled(parts.ptrs(), ptrs) {
+    if !are_subs_spelled(parts, subs) || !are_ptrs_spelled(parts, ptrs) {
         return Ok(false);
     }
     let pointed = pointed_by(alloc, parts, ptrs)?;
@@ -48,22 +52,28 @@ fn is_sound_object(
     are_names_apart(alloc, &entries)
 }
 
-/// Whether the parts with these numbers are spelled.
-fn are_spelled<V>(parts: &[Option<V>], numbers: &[u32]) -> bool
-    ensures { IsTrue result ↔ All (λ n. IsSome (part_at parts.now n)) numbers.now }
+/// Whether the sub-blocks with these numbers are spelled.
+fn are_subs_spelled<S: Store>(parts: &PartsInMemory<S>, subs: &[u32]) -> bool
+    ensures { IsTrue result ↔ All (λ n. IsSome (part_at parts.now.subs n)) subs.now }
 {
-    for number in numbers {
-        if !is_spelled(parts, *number) {
+    for number in subs {
+        if parts.sub(*number).is_none() {
             return false;
         }
     }
     true
 }
 
-fn is_spelled<V>(parts: &[Option<V>], number: u32) -> bool
-    ensures { result ≡ is_some (part_at parts.now number) }
+/// Whether the pointer blocks with these numbers are spelled.
+fn are_ptrs_spelled<S: Store>(parts: &PartsInMemory<S>, ptrs: &[u32]) -> bool
+    ensures { IsTrue result ↔ All (λ n. IsSome (part_at parts.now.ptrs n)) ptrs.now }
 {
-    matches!(parts.get(number as usize), Some(Some(_)))
+    for number in ptrs {
+        if parts.ptr(*number).is_none() {
+            return false;
+        }
+    }
+    true
 }
 
 /// Whether the addresses past a file's last block are zero, of those in its pointer blocks.
@@ -89,7 +99,7 @@ fn are_zero(numbers: &[u32]) -> bool
 }
 
 /// Whether these entries say the life and the kind of their objects.
-fn are_named_right(parts: &PartsInMemory, entries: &[Entry]) -> bool
+fn are_named_right<S: Store>(parts: &PartsInMemory<S>, entries: &[Entry]) -> bool
     ensures { IsTrue result ↔ All (IsNamedRight parts.now) entries.now }
 {
     for entry in entries {
@@ -100,7 +110,7 @@ fn are_named_right(parts: &PartsInMemory, entries: &[Entry]) -> bool
     true
 }
 
-fn is_named_right(parts: &PartsInMemory, entry: &Entry) -> bool
+fn is_named_right<S: Store>(parts: &PartsInMemory<S>, entry: &Entry) -> bool
     ensures { IsTrue result ↔ IsNamedRight parts.now entry.now }
 {
     let key = entry.key;

@@ -10,12 +10,13 @@ use crate::listings::Listed;
 use crate::owners::{bits_in, owns};
 use crate::parts::PartsInMemory;
 use crate::sound_objects::are_sound_objects;
+use crate::stores::Store;
 use ds_base::{Kind, NoMemory};
 use ds_fd::Body;
 use std::alloc::Global;
 
 /// Whether the parts that a volume spells agree with one another.
-pub(crate) fn is_sound(alloc: Global, parts: &PartsInMemory) -> Result<bool, NoMemory>
+pub(crate) fn is_sound<S: Store>(alloc: Global, parts: &PartsInMemory<S>) -> Result<bool, NoMemory>
     requires { AreRead parts.now }
     ensures { IfOk result (λ yes. IsTrue yes ↔ IsSound parts.now) }
 {
@@ -29,7 +30,7 @@ pub(crate) fn is_sound(alloc: Global, parts: &PartsInMemory) -> Result<bool, NoM
 }
 
 /// Whether the bits are set exactly where an object uses an item, and no item is listed twice.
-fn is_marked(alloc: Global, parts: &PartsInMemory) -> Result<bool, NoMemory>
+fn is_marked<S: Store>(alloc: Global, parts: &PartsInMemory<S>) -> Result<bool, NoMemory>
     requires { HasShortRows parts.now }
     ensures { IfOk result (λ yes. IsTrue yes ↔ IsMarked parts.now) }
 {
@@ -77,7 +78,7 @@ pub(crate) fn is_used(body: &Option<Body>) -> bool
     }
 }
 
-fn are_maps_spelled(parts: &PartsInMemory) -> bool
+fn are_maps_spelled<S: Store>(parts: &PartsInMemory<S>) -> bool
     ensures { IsTrue result ↔ ((kind : Kind) → AllSpelled (maps_of parts.now kind)) }
 {
     if !are_spelled(parts.maps(Kind::Fd)) {

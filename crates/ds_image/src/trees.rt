@@ -9,12 +9,13 @@ use crate::images::Image;
 use crate::parts::PartsInMemory;
 use crate::rooted::is_rooted;
 use crate::soundness::is_sound;
+use crate::stores::Store;
 use ds_base::NoMemory;
 use ds_tree::Tree;
 use std::alloc::Global;
 
 /// The tree for which an image stands, which is the only one; `None` where it stands for no tree. In linear time.
-pub fn read_tree(alloc: Global, image: &Image) -> Result<Option<Tree>, NoMemory>
+pub fn read_tree<S: Store>(alloc: Global, image: &Image<S>) -> Result<Option<Tree>, NoMemory>
     ensures tree { IfOk result (λ found. MatchOption found (StandsForNone image.now.geom image.now.sectors)
         (λ t. StandsFor image.now.geom image.now.sectors t.tree)) }
     ensures only { IfOk result (λ found. IfSome found (λ it. (t : FileTree) → StandsFor image.now.geom image.now.sectors t → t ≡ it.tree)) }
@@ -23,7 +24,7 @@ pub fn read_tree(alloc: Global, image: &Image) -> Result<Option<Tree>, NoMemory>
     tree_in(alloc, image)
 }
 
-fn tree_in(alloc: Global, image: &Image) -> Result<Option<Tree>, NoMemory>
+fn tree_in<S: Store>(alloc: Global, image: &Image<S>) -> Result<Option<Tree>, NoMemory>
     ensures tree { IfOk result (λ found. MatchOption found (StandsForNone image.now.geom image.now.sectors)
         (λ t. StandsFor image.now.geom image.now.sectors t.tree)) }
     ensures geom { IfOk result (λ found. IfSome found (λ t. t.geom ≡ image.now.geom)) }

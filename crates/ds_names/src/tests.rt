@@ -109,7 +109,7 @@ fn sub_block(place: u32) -> SubBlock {
     SubBlock { rooms }
 }
 
-fn image_of(alloc: Global, wrong: Wrong) -> Result<Image, Fail> {
+fn lun_of(alloc: Global, wrong: Wrong) -> Result<MemLun, Fail> {
     SHAPE.check().ok().ok_or("no geometry")?;
     let mut sectors = format(alloc, &SHAPE, Uuid::from_u128(7))?;
     put_bits(&mut sectors, 36, Kind::Fd, 37);
@@ -134,8 +134,15 @@ fn image_of(alloc: Global, wrong: Wrong) -> Result<Image, Fail> {
     if sectors.len() != total(&SHAPE) as usize {
         return Err("the volume has another size".into());
     }
-    let lun = MemLun::from_list(sectors);
-    Ok(overlay(alloc, &SHAPE, &lun)?)
+    Ok(MemLun::from_list(sectors))
+}
+
+fn image_of(alloc: Global, lun: &MemLun) -> Result<Image<MemLun>, Fail> {
+    SHAPE.check().ok().ok_or("no geometry")?;
+    if lun.len() != total(&SHAPE) {
+        return Err("the volume has another size".into());
+    }
+    Ok(overlay(alloc, &SHAPE, lun)?)
 }
 
 fn lookup(rt: &impl Abort, dir: Key, name: &[u8]) -> Call {
@@ -180,7 +187,7 @@ fn is_built(call: &Call) -> bool
 fn asked_of(
     rt: &impl Abort,
     alloc: Global,
-    image: &Image,
+    image: &Image<MemLun>,
     call: &Call,
 ) -> Result<(Vec<Asked>, Ask), Fail> {
     assert!(rt; SHAPE.check().is_ok());
@@ -198,7 +205,8 @@ fn asked_of(
             }
             Ask::Read(at) => {
                 assert!(rt; seen.sector(at).is_none());
-                seen.put(at, image.sector(at).ok_or("no sector of metadata")?);
+                let sector = image.sector(at).ok_or("no sector of metadata")?;
+                seen.put(at, &sector);
                 asked.push(Asked::Read(at))?;
             }
             end => {
@@ -222,7 +230,12 @@ fn first_reads(alloc: Global, subs: usize) -> Result<Vec<Asked>, Fail> {
 }
 
 /// The call's end, which is the reply that the tree of the image gives.
-fn reply_of(rt: &impl Abort, alloc: Global, image: &Image, call: &Call) -> Result<TreeReply, Fail> {
+fn reply_of(
+    rt: &impl Abort,
+    alloc: Global,
+    image: &Image<MemLun>,
+    call: &Call,
+) -> Result<TreeReply, Fail> {
     let mut tree = read_tree(alloc, image)?.ok_or("it stands for none")?;
     assert!(rt; is_built(call));
     assert!(rt; has_names(call));
@@ -238,7 +251,8 @@ fn reply_of(rt: &impl Abort, alloc: Global, image: &Image, call: &Call) -> Resul
 
 #[test]
 fn lookups_answer_as_the_tree_does(rt: HostRuntime) -> Result<(), Fail> {
-    let image = image_of(rt.alloc(), Wrong::Nothing)?;
+    let lun = lun_of(rt.alloc(), Wrong::Nothing)?;
+    let image = image_of(rt.alloc(), &lun)?;
     for object in 1..37 {
         let entry = file(object).ok_or("no name")?;
         let call = lookup(&rt, ROOT, entry.name.bytes());
@@ -268,7 +282,8 @@ fn lookups_answer_as_the_tree_does(rt: HostRuntime) -> Result<(), Fail> {
 
 #[test]
 fn lists_answer_as_the_tree_does(rt: HostRuntime) -> Result<(), Fail> {
-    let image = image_of(rt.alloc(), Wrong::Nothing)?;
+    let lun = lun_of(rt.alloc(), Wrong::Nothing)?;
+    let image = image_of(rt.alloc(), &lun)?;
     let cases: [(Option<&[u8]>, usize); 6] = [
         (None, 32),
         (Some(b"n03"), 32),
@@ -299,7 +314,8 @@ fn lists_answer_as_the_tree_does(rt: HostRuntime) -> Result<(), Fail> {
 
 #[test]
 fn sub_blocks_are_read_in_order_until_the_name_is_found(rt: HostRuntime) -> Result<(), Fail> {
-    let image = image_of(rt.alloc(), Wrong::Nothing)?;
+    let lun = lun_of(rt.alloc(), Wrong::Nothing)?;
+    let image = image_of(rt.alloc(), &lun)?;
     for (object, subs) in [(1, 1), (3, 1), (4, 2), (9, 3), (36, 12)] {
         let entry = file(object).ok_or("no name")?;
         let call = lookup(&rt, ROOT, entry.name.bytes());
@@ -323,7 +339,8 @@ fn sub_blocks_are_read_in_order_until_the_name_is_found(rt: HostRuntime) -> Resu
 #[test]
 fn a_sector_that_fits_no_tree_is_odd(rt: HostRuntime) -> Result<(), Fail> {
     for (wrong, at) in [(Wrong::ThirdSubBlock, 150), (Wrong::ThirdAddress, 44)] {
-        let image = image_of(rt.alloc(), wrong)?;
+        let lun = lun_of(rt.alloc(), wrong)?;
+        let image = image_of(rt.alloc(), &lun)?;
         for call in [lookup(&rt, ROOT, b"n"), list(&rt, ROOT, None)] {
             let (_, end) = asked_of(&rt, rt.alloc(), &image, &call)?;
             assert!(rt; matches!(end, Ask::Odd(odd) if odd == at), "{wrong:?}");

@@ -21,14 +21,22 @@ pub(crate) enum Step {
     Read(u32),
 }
 
-/// The logical image of a volume with these sectors.
-pub(crate) fn image_of(alloc: Global, sectors: Vec<Sector>) -> Result<Image, Fail> {
+/// A device with these sectors.
+pub(crate) fn lun_of(sectors: Vec<Sector>) -> Result<MemLun, Fail> {
     GEOM.check()?;
     if sectors.len() != total(&GEOM) as usize {
         return Err("the volume has another size".into());
     }
-    let lun = MemLun::from_list(sectors);
-    Ok(overlay(alloc, &GEOM, &lun)?)
+    Ok(MemLun::from_list(sectors))
+}
+
+/// The logical image of a device with a volume.
+pub(crate) fn image_of(alloc: Global, lun: &MemLun) -> Result<Image<MemLun>, Fail> {
+    GEOM.check()?;
+    if lun.len() != total(&GEOM) {
+        return Err("the volume has another size".into());
+    }
+    Ok(overlay(alloc, &GEOM, lun)?)
 }
 
 /// The call that asks this of an object.
@@ -45,7 +53,11 @@ pub(crate) fn call_by(key: Key, question: Question) -> Call
 }
 
 /// How a call ends on an image, and what it asked for on the way.
-pub(crate) fn driven(alloc: Global, image: &Image, call: &Call) -> Result<(Ask, Vec<Step>), Fail>
+pub(crate) fn driven(
+    alloc: Global,
+    image: &Image<MemLun>,
+    call: &Call,
+) -> Result<(Ask, Vec<Step>), Fail>
     requires { is_reading call.now ≡ true }
 {
     let plan = Reads::new(image.geom(), 0, call);
@@ -64,7 +76,7 @@ pub(crate) fn driven(alloc: Global, image: &Image, call: &Call) -> Result<(Ask, 
 }
 
 /// Grants what is asked for.
-fn grant(seen: &mut Seen, image: &Image, ask: &Ask) -> Result<(), Fail>
+fn grant(seen: &mut Seen, image: &Image<MemLun>, ask: &Ask) -> Result<(), Fail>
     requires locks { length seen.old.locks < 64 }
     requires sectors { length seen.old.sectors < 256 }
     ensures locks { length seen.new.locks ≤ length seen.old.locks + 1 }
@@ -82,7 +94,7 @@ fn grant(seen: &mut Seen, image: &Image, ask: &Ask) -> Result<(), Fail>
                 return Err("it asks for a sector that it has read".into());
             }
             let sector = image.sector(at).ok_or("it asks for what is no metadata")?;
-            seen.put(at, sector);
+            seen.put(at, &sector);
         }
         _ => {}
     }

@@ -1,7 +1,7 @@
 //! What the planner answers on an image, beside what the tree of the image answers.
 
 use crate::Question;
-use crate::driving::{Step, call_by, driven, image_of};
+use crate::driving::{Step, call_by, driven, image_of, lun_of};
 use crate::volumes::{BIRTHS, pointers, put, put_body, volume};
 use ds_base::{Key, NodeKind, Sector};
 use ds_image::{Ask, read_tree};
@@ -30,7 +30,8 @@ const QUESTIONS: [Question; 14] = [
 #[test]
 fn each_reply_is_that_of_the_tree(rt: HostRuntime) -> Result<(), Fail> {
     let alloc = rt.alloc();
-    let image = image_of(alloc, volume(alloc)?)?;
+    let lun = lun_of(volume(alloc)?)?;
+    let image = image_of(alloc, &lun)?;
     let mut tree = read_tree(alloc, &image)?.ok_or("it stands for no tree")?;
     assert!(rt; !tree.worn());
     for object in [0, 1, 2, 3, 4, 5, 6, 7, 8, u32::MAX] {
@@ -63,7 +64,8 @@ fn end_of(
 ) -> Result<(Ask, Vec<Step>), Fail> {
     let birth = *BIRTHS.get(object as usize).unwrap_or(&1);
     let call = call_by(Key { object, birth }, question);
-    driven(alloc, &image_of(alloc, sectors)?, &call)
+    let lun = lun_of(sectors)?;
+    driven(alloc, &image_of(alloc, &lun)?, &call)
 }
 
 /// File 5 has 129 blocks, from 449 down to 321; its pointer blocks are 1, at sector 62, and 0, at sector 61.

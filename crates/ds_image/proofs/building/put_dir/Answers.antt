@@ -11,7 +11,7 @@ use Rattle.ds_image.proofs.EntryNames.{pairs}
 use Rattle.ds_image.proofs.building.put_dir.Goals as goal
 
 pub loop-entry-preserved : goal.loop-entry-preserved
-loop-entry-preserved c =
+loop-entry-preserved _ c =
     let es = c.deref-entry-items.result.now in
     let n = c.loop-entry.entry-index in
     let e = c.entry-item.result in

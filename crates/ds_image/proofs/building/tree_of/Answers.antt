@@ -21,7 +21,7 @@ within : (xs ys : List (Option Body)) (n : ℕ) → xs ≡ ys → n < length xs 
 within xs ys n same below = subst (λ l. n < length l) same below
 
 pub put_object-requires-clause-free : goal.put_object-requires-clause-free
-put_object-requires-clause-free c = λ unused.
+put_object-requires-clause-free _ c = λ unused.
     let g = c.args.geom.now in
     let p = c.args.parts.now in
     let n = c.loop-object.object in
@@ -37,10 +37,10 @@ put_object-requires-clause-free c = λ unused.
     ]
 
 pub put_object-requires-clause-body : goal.put_object-requires-clause-body
-put_object-requires-clause-body c = λ b there. body_is c.args.geom.now c.requires.reads.0 c.args.parts.now c.loop-object.object b c.requires.reads.1 there
+put_object-requires-clause-body _ c = λ b there. body_is c.args.geom.now c.requires.reads.0 c.args.parts.now c.loop-object.object b c.requires.reads.1 there
 
 pub loop-object-preserved : goal.loop-object-preserved
-loop-object-preserved c =
+loop-object-preserved _ c =
     let g = c.args.geom.now in
     let p = c.args.parts.now in
     let n = c.loop-object.object in
@@ -61,14 +61,14 @@ all-put g look p bodies n t is reads same past so_far =
     built p t (objects-all (object_of p) p.bodies (fresh_tree g).objects n t.objects (subst (λ (bs : List (Option Body)). length bs ≤ n) same past) count so_far)
 
 pub finish-requires : goal.finish-requires
-finish-requires c =
+finish-requires _ c =
     let all = all-put c.args.geom.now c.requires.reads.0 c.args.parts.now c.bodies-bodies.result.now c.loop-object.object c.loop-object.builder.tree c.requires.geom c.requires.reads.1
     c.bodies-bodies.ensures c.loop-object-test.false c.loop-object.invariant.objects in
     subst (λ (g : Geom). IsTree g c.loop-object.builder.tree) (sym c.loop-object.invariant.geom)
     (subst (λ (t : FileTree). IsTree c.args.geom.now t) (sym all) c.requires.tree)
 
 pub returns-clause-tree : goal.returns-clause-tree
-returns-clause-tree c =
+returns-clause-tree _ c =
     ap (λ (t : TreeValue). t.tree) c.finish.ensures
     ∙ all-put c.args.geom.now c.requires.reads.0 c.args.parts.now c.bodies-bodies.result.now c.loop-object.object c.loop-object.builder.tree c.requires.geom c.requires.reads.1
     c.bodies-bodies.ensures c.loop-object-test.false c.loop-object.invariant.objects

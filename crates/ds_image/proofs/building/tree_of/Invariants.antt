@@ -5,7 +5,7 @@ use Rattle.ds_image.specs.Objects.{object_of}
 use Rattle.ds_image.proofs.building.tree_of.Given as goal
 
 abbrev pub invariant-loop-object : goal.invariant-loop-object
-invariant-loop-object l = record {
+invariant-loop-object _ l = record {
   geom : l.builder.geom ≡ l.geom;
   objects : l.builder.tree.objects ≡ map (object_of l.parts) (take l.object l.parts.bodies) ++ drop l.object (fresh_tree l.geom).objects;
 }

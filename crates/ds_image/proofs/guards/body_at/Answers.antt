@@ -4,5 +4,5 @@ use Rattle.ds_layout.specs.declared.places.Place.TheVariants.{Body}
 use Rattle.ds_image.proofs.guards.body_at.Goals as goal
 
 pub returns-in_err-sector : goal.returns-in_err-sector
-returns-in_err-sector c =
+returns-in_err-sector _ c =
     absurd (c.in_err-sector.ensures record { place = Body c.args.object; is_place = c.requires; here = sym (rw c.geom.ensures.value at c.sector_of.ensures); kept = refl })

@@ -7,6 +7,6 @@ use Rattle.ds_image.specs.Readings.{Reads}
 use Rattle.ds_image.proofs.guards.lister_or.Given as goal
 
 abbrev pub invariant-loop-object : goal.invariant-loop-object
-invariant-loop-object l =
+invariant-loop-object _ l =
     (p : Parts) → Reads l.image.geom (slice_get l.image.sectors) p
     → (i : ℕ) → i < l.object → list_any (λ x. x == l.n) (listed_of l.kind (part_at p.bodies i)) ≡ false

@@ -8,7 +8,7 @@ use Rattle.ds_image.proofs.ListedItems.{blocks-pointed}
 use Rattle.ds_image.proofs.listings.blocks_of.Goals as goal
 
 pub returns : goal.returns
-returns c =
+returns _ c =
     let p = c.args.parts.now in
     let it = c.in-Some.it in
     let kind : it.kind ≡ Some kinds.File = search rules in

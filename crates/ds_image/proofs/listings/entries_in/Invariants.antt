@@ -4,4 +4,4 @@ use Rattle.ds_image.specs.Objects.{used_rooms}
 use Rattle.ds_image.proofs.listings.entries_in.Given as goal
 
 abbrev pub invariant-loop-number : goal.invariant-loop-number
-invariant-loop-number l = l.entries.items ≡ used_rooms l.parts (take l.number-index l.subs)
+invariant-loop-number _ l = l.entries.items ≡ used_rooms l.parts (take l.number-index l.subs)

@@ -6,4 +6,4 @@ use Rattle.ds_image.specs.Parts.{part_at}
 use Rattle.ds_image.proofs.listings.pointed_by.Given as goal
 
 abbrev pub invariant-loop-number : goal.invariant-loop-number
-invariant-loop-number l = l.addresses.items ≡ flat_map (λ n. addresses_in (part_at l.parts.ptrs n)) (take l.number-index l.ptrs)
+invariant-loop-number _ l = l.addresses.items ≡ flat_map (λ n. addresses_in (part_at l.parts.ptrs n)) (take l.number-index l.ptrs)

@@ -1,5 +1,9 @@
 -- The pairs of the slot's journal are its pending ones.
+use Rattle.std.specs.BTreeMap.{get}
+use Rattle.std.specs.Ordering.{nat_cmp}
+use Rattle.std.proofs.lemmas.Result.{on_ok_weaker}
 use Rattle.ds_image.specs.Pending.{AreJournalled, ArePending}
+use Rattle.ds_image.specs.Replaced.{image_of}
 use Rattle.ds_image.proofs.Laying.{lays_as, committed_pending}
 use Rattle.ds_image.proofs.logical.lay_slot.Goals as goal
 
@@ -9,6 +13,8 @@ returns-in-Some g c =
     let sectors = g.S.Store.sectors c.args.store.now in
     let number = c.args.number in
     let index = c.in-Some.index in
-    lays_as (AreJournalled geom sectors number c.as_slice.result.now) (ArePending geom sectors number) c.args.sectors.now c.lay_journal.new.sectors
-    (λ pairs are. committed_pending geom sectors number index pairs c.in-Some.ensures (rw (← c.as_slice.ensures.value) are))
+    on_ok_weaker c.lay_journal.result
+    (lays_as (AreJournalled geom sectors number c.as_slice.result.now) (ArePending geom sectors number) (image_of geom sectors (get nat_cmp c.args.pending.now))
+    (image_of geom sectors (get nat_cmp c.lay_journal.new.pending))
+    (λ pairs are. committed_pending geom sectors number index pairs c.in-Some.ensures (rw (← c.as_slice.ensures.value) are)))
     c.lay_journal.ensures

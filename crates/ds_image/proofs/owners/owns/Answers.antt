@@ -11,7 +11,7 @@ use Rattle.ds_image.proofs.Owning.{owns-none}
 use Rattle.ds_image.proofs.owners.owns.Goals as goal
 
 pub loop-body-init : goal.loop-body-init
-loop-body-init c =
+loop-body-init _ c =
     let clear : c.in_ok-marks.marks ≡ replicate (length c.args.bits.now) false = c.in_ok-marks.ensures in
     record {
       owns = subst (Owns []) (sym clear) (owns-none (length c.args.bits.now));
@@ -19,7 +19,7 @@ loop-body-init c =
     }
 
 pub loop-body-preserved : goal.loop-body-preserved
-loop-body-preserved c =
+loop-body-preserved _ c =
     record {
       owns = owned-more (listed_by c.args.parts.now c.args.what) c.bodies-bodies.result.now c.loop-body.body-index _ c.deref.result.now c.mark_list.new.self c.loop-body-test.true
           (c.deref.ensures.value ∙ c.in_ok-items.ensures)
@@ -28,7 +28,7 @@ loop-body-preserved c =
     }
 
 pub returns-then-not-mark_list : goal.returns-then-not-mark_list
-returns-then-not-mark_list c =
+returns-then-not-mark_list _ c =
     let f = listed_by c.args.parts.now c.args.what in
     let cannot : ¬ CanMark c.loop-body.marks c.deref.result.now = λ can. false≢true (sym c.if-not-mark_list.true ∙ c.mark_list.ensures.exact.1 can) in
     let not_all = owned-not f c.bodies-bodies.result.now c.loop-body.body-index _ c.deref.result.now c.loop-body.marks c.args.bits.now c.loop-body-test.true
@@ -36,7 +36,7 @@ returns-then-not-mark_list c =
     (λ wrong. absurd (false≢true wrong), λ owns. absurd (not_all (subst (λ bodies. Owns (map f bodies) c.args.bits.now) (sym c.bodies-bodies.ensures) owns)))
 
 pub returns : goal.returns
-returns c =
+returns _ c =
     let f = listed_by c.args.parts.now c.args.what in
     let all = owned-all f c.bodies-bodies.result.now c.loop-body.body-index c.loop-body.marks c.args.bits.now c.are.result c.loop-body-test.false
     c.loop-body.invariant.owns c.loop-body.invariant.count c.are.ensures in (

@@ -5,7 +5,7 @@ use Rattle.ds_image.specs.Owns.{Owns}
 use Rattle.ds_image.proofs.owners.owns.Given as goal
 
 abbrev pub invariant-loop-body : goal.invariant-loop-body
-invariant-loop-body l = record {
+invariant-loop-body _ l = record {
   owns : Owns (map (listed_by l.parts l.what) (take l.body-index l.bodies)) l.marks;
   count : length l.marks ≡ length l.bits;
 }

@@ -8,8 +8,8 @@ use Rattle.ds_image.proofs.Decoded.{spelled_at}
 use Rattle.ds_image.proofs.parts.bits_of.Goals as goal
 
 pub returns : goal.returns
-returns c =
+returns _ c =
     let g = c.args.image.now.geom in
-    spelled_at (slice_get c.args.image.now.sectors) (place_sector g (places.Bitmap c.args.kind c.args.cluster)) c.sector_at-sector.result.now
+    spelled_at (slice_get c.args.image.now.sectors) (place_sector g (places.Bitmap c.args.kind c.args.cluster)) c.sector_at-sector.result
     (IsBits g c.args.kind c.args.cluster) bits_bytes c.decode.result c.sector_at-sector.ensures
-    (subst (λ (h : Geom). IsDecoded c.decode.result (λ b. IsBits h c.args.kind c.args.cluster b × (c.sector_at-sector.result.now.bytes ≡ bits_bytes b))) c.geom.ensures.value c.decode.ensures)
+    (subst (λ (h : Geom). IsDecoded c.decode.result (λ b. IsBits h c.args.kind c.args.cluster b × (c.sector_at-sector.result.bytes ≡ bits_bytes b))) c.geom.ensures.value c.decode.ensures)

@@ -7,9 +7,9 @@ use Rattle.ds_image.proofs.PartsRead.{reading-more, reading-all}
 use Rattle.ds_image.proofs.parts.bodies_of.Goals as goal
 
 pub loop-object-preserved : goal.loop-object-preserved
-loop-object-preserved c =
+loop-object-preserved _ c =
     let more : c.push.new.self.items ≡ c.loop-object.bodies.items ++ c.body_of.result ∷ [] = search rules in
     reading-more c.loop-object.object (SpellsBody c.args.image.now.geom (slice_get c.args.image.now.sectors)) _ _ _ more c.loop-object.invariant c.body_of.ensures
 
 pub returns : goal.returns
-returns c = reading-all c.loop-object.object _ (SpellsBody c.args.image.now.geom (slice_get c.args.image.now.sectors)) _ (omega (arith, c.loop-object-test.false, c.loop-object.auto, ap (λ g. items_of g kinds.Fd) c.geom.ensures.value, c.items_of_kind-count.ensures)) c.loop-object.invariant
+returns _ c = reading-all c.loop-object.object _ (SpellsBody c.args.image.now.geom (slice_get c.args.image.now.sectors)) _ (omega (arith, c.loop-object-test.false, c.loop-object.auto, ap (λ g. items_of g kinds.Fd) c.geom.ensures.value, c.items_of_kind-count.ensures)) c.loop-object.invariant

@@ -6,9 +6,9 @@ use Rattle.ds_image.proofs.PartsRead.{reading-more, reading-all}
 use Rattle.ds_image.proofs.parts.maps_of.Goals as goal
 
 pub loop-cluster-preserved : goal.loop-cluster-preserved
-loop-cluster-preserved c =
+loop-cluster-preserved _ c =
     let more : c.push.new.self.items ≡ c.loop-cluster.maps.items ++ c.bits_of.result ∷ [] = search rules in
     reading-more c.loop-cluster.cluster (SpellsBits c.args.image.now.geom (slice_get c.args.image.now.sectors) c.args.kind) _ _ _ more c.loop-cluster.invariant c.bits_of.ensures
 
 pub returns : goal.returns
-returns c = reading-all c.loop-cluster.cluster _ (SpellsBits c.args.image.now.geom (slice_get c.args.image.now.sectors) c.args.kind) _ (omega (arith, c.loop-cluster-test.false, c.loop-cluster.auto, ap (λ g. clusters_of g c.args.kind) c.geom.ensures.value, c.clusters_of_kind-count.ensures)) c.loop-cluster.invariant
+returns _ c = reading-all c.loop-cluster.cluster _ (SpellsBits c.args.image.now.geom (slice_get c.args.image.now.sectors) c.args.kind) _ (omega (arith, c.loop-cluster-test.false, c.loop-cluster.auto, ap (λ g. clusters_of g c.args.kind) c.geom.ensures.value, c.clusters_of_kind-count.ensures)) c.loop-cluster.invariant

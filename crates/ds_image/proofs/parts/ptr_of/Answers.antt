@@ -5,6 +5,6 @@ use Rattle.ds_image.proofs.PartsRead.{ptr_read}
 use Rattle.ds_image.proofs.parts.ptr_of.Goals as goal
 
 pub returns : goal.returns
-returns c =
-    ptr_read (slice_get c.args.image.now.sectors) (place_sector c.args.image.now.geom (places.PtrBlock c.args.number)) c.sector_at-sector.result.now c.decode.result
+returns _ c =
+    ptr_read (slice_get c.args.image.now.sectors) (place_sector c.args.image.now.geom (places.PtrBlock c.args.number)) c.sector_at-sector.result c.decode.result
     c.sector_at-sector.ensures c.decode.ensures.spelled c.decode.ensures.fits

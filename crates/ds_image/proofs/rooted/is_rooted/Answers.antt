@@ -16,11 +16,11 @@ use Rattle.ds_image.proofs.ReachedObjects.{rooted-where_reached}
 use Rattle.ds_image.proofs.rooted.is_rooted.Goals as goal
 
 pub owns-requires : goal.owns-requires
-owns-requires c =
+owns-requires _ c =
     omega (arith, ap length (c.deref.ensures.value ∙ c.in_ok-named.ensures), named-count c.args.parts.now, c.requires.read.reads.bodies.len, most_items_of c.requires.read.geom kinds.Fd c.requires.read.is_geom)
 
 pub returns : goal.returns
-returns c =
+returns _ c =
     let p = c.args.parts.now in
     let bits : c.deref.result.now ≡ named_bits p = c.deref.ensures.value ∙ c.in_ok-named.ensures in
     let named : Owns (lists_by p listed.Names) (named_bits p) = subst (Owns (lists_by p listed.Names)) bits (c.in_ok-owns.ensures.0 c.if-not-branch.false) in

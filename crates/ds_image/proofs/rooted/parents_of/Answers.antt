@@ -14,11 +14,11 @@ use Rattle.ds_image.proofs.SoundParts.{list-is}
 use Rattle.ds_image.proofs.rooted.parents_of.Goals as goal
 
 pub overflow_cast-dir-end : goal.overflow_cast-dir-end
-overflow_cast-dir-end c =
+overflow_cast-dir-end _ c =
     omega (arith, ap length c.bodies-bodies.ensures, c.requires.read.reads.bodies.len, most_items_of c.requires.read.geom kinds.Fd c.requires.read.is_geom)
 
 pub loop-dir-preserved : goal.loop-dir-preserved
-loop-dir-preserved c =
+loop-dir-preserved _ c =
     let p = c.args.parts.now in
     let bodies = c.bodies-bodies.result.now in
     let new = c.set_parents.new.parents in

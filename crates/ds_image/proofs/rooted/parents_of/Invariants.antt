@@ -6,7 +6,7 @@ use Rattle.ds_image.specs.ListParents.{AreParentsOf}
 use Rattle.ds_image.proofs.rooted.parents_of.Given as goal
 
 abbrev pub invariant-loop-dir : goal.invariant-loop-dir
-invariant-loop-dir l = record {
+invariant-loop-dir _ l = record {
   count : length l.parents.items ≡ length l.bodies;
   are : AreParentsOf (lists_by l.parts listed.Names) l.dir l.parents.items;
 }

@@ -5,7 +5,7 @@ use Rattle.ds_image.proofs.ObjectSound.{all-sound}
 use Rattle.ds_image.proofs.sound_objects.are_sound_objects.Goals as goal
 
 pub returns : goal.returns
-returns c =
+returns _ c =
     let p = c.args.parts.now in
     let all = all-sound p c.loop-body.body-index (subst (λ bodies. length bodies ≤ c.loop-body.body-index) c.bodies-bodies.ensures c.loop-body-test.false)
     (λ o below. subst (λ bodies. IsSoundObject p (part_at bodies o)) c.bodies-bodies.ensures (c.loop-body.invariant o below)) in

@@ -5,4 +5,4 @@ use Rattle.ds_image.specs.SoundObjects.{IsSoundObject}
 use Rattle.ds_image.proofs.sound_objects.are_sound_objects.Given as goal
 
 abbrev pub invariant-loop-body : goal.invariant-loop-body
-invariant-loop-body l = (o : ℕ) → o < l.body-index → IsSoundObject l.parts (part_at l.bodies o)
+invariant-loop-body _ l = (o : ℕ) → o < l.body-index → IsSoundObject l.parts (part_at l.bodies o)

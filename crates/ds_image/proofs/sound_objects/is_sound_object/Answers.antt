@@ -11,7 +11,7 @@ use Rattle.ds_image.proofs.ObjectSound.{tail-is}
 use Rattle.ds_image.proofs.sound_objects.is_sound_object.Goals as goal
 
 pub returns-then-not-is_tail_zero : goal.returns-then-not-is_tail_zero
-returns-then-not-is_tail_zero c =
+returns-then-not-is_tail_zero _ c =
     let p = c.args.parts.now in
     let body = c.args.body.now in
     let pointed : c.deref.result.now ≡ flat_map (λ n. addresses_in (part_at p.ptrs n)) (ptrs_of body) =
@@ -20,7 +20,7 @@ returns-then-not-is_tail_zero c =
     (λ wrong. absurd (false≢true wrong), λ sound. absurd (false≢true (sym c.if-not-is_tail_zero.true ∙ c.is_tail_zero.ensures.1 (subst AreZero (sym tail) sound.tails))))
 
 pub returns : goal.returns
-returns c =
+returns _ c =
     let p = c.args.parts.now in
     let body = c.args.body.now in
     let pointed : c.deref.result.now ≡ flat_map (λ n. addresses_in (part_at p.ptrs n)) (ptrs_of body) =
@@ -30,9 +30,9 @@ returns c =
     IfOk-weaker c.are_names_apart.result (λ yes. IsTrue yes ↔ AreNamesApart c.deref-3.result.now) (λ yes. IsTrue yes ↔ IsSoundObject p body) (λ yes exact. (
       λ y. record {
         subs = subst (All (λ n. IsSome (part_at p.subs n))) c.subs_of-subs.ensures
-            (subst (λ parts. All (λ n. IsSome (part_at parts n)) c.subs_of-subs.result.now) c.subs.ensures (c.are_spelled.ensures.0 c.if-not-are_spelled.false));
+            (c.are_subs_spelled.ensures.0 c.if-not-are_subs_spelled.false);
         ptrs = subst (All (λ n. IsSome (part_at p.ptrs n))) c.ptrs_of-ptrs.ensures
-            (subst (λ parts. All (λ n. IsSome (part_at parts n)) c.ptrs_of-ptrs.result.now) c.ptrs.ensures (c.are_spelled-else-not-are_spelled.ensures.0 c.if-not-are_spelled-2.false));
+            (c.are_ptrs_spelled.ensures.0 c.if-not-are_ptrs_spelled.false);
         names = subst AreNamesApart (c.deref-3.ensures.value ∙ entries) (exact.0 y);
         entries = subst (All (IsNamedRight p)) (c.deref-2.ensures.value ∙ entries) (c.are_named_right.ensures.0 c.if-not-are_named_right.false);
         tails = subst AreZero tail (c.is_tail_zero.ensures.0 c.if-not-is_tail_zero.false);

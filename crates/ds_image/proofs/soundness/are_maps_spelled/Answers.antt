@@ -10,7 +10,7 @@ spelled_in : {xs ys : List (Option Bitmap)} → xs ≡ ys → AllSpelled xs → 
 spelled_in same all = subst (λ (maps : List (Option Bitmap)). AllSpelled maps) same all
 
 pub returns : goal.returns
-returns c = (
+returns _ c = (
   λ yes. each_kind (λ kind. AllSpelled (maps_of c.args.parts.now kind))
       (spelled_in c.maps.ensures (c.are_spelled.ensures.0 c.if-not-are_spelled.false))
       (spelled_in c.maps-2.ensures (c.are_spelled-2.ensures.0 c.if-not-are_spelled-2.false))
@@ -20,13 +20,13 @@ returns c = (
 )
 
 pub returns-then-not-are_spelled : goal.returns-then-not-are_spelled
-returns-then-not-are_spelled c =
+returns-then-not-are_spelled _ c =
     (λ wrong. absurd (false≢true wrong), λ all. absurd (false≢true (sym c.if-not-are_spelled.true ∙ c.are_spelled.ensures.1 (spelled_in (sym c.maps.ensures) (all kinds.Fd)))))
 
 pub returns-then-not-are_spelled-2 : goal.returns-then-not-are_spelled-2
-returns-then-not-are_spelled-2 c =
+returns-then-not-are_spelled-2 _ c =
     (λ wrong. absurd (false≢true wrong), λ all. absurd (false≢true (sym c.if-not-are_spelled-2.true ∙ c.are_spelled-2.ensures.1 (spelled_in (sym c.maps-2.ensures) (all kinds.Sb)))))
 
 pub returns-then-not-are_spelled-3 : goal.returns-then-not-are_spelled-3
-returns-then-not-are_spelled-3 c =
+returns-then-not-are_spelled-3 _ c =
     (λ wrong. absurd (false≢true wrong), λ all. absurd (false≢true (sym c.if-not-are_spelled-3.true ∙ c.are_spelled-3.ensures.1 (spelled_in (sym c.maps-3.ensures) (all kinds.Pb)))))

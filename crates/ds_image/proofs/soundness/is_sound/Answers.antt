@@ -9,17 +9,17 @@ use Rattle.ds_image.proofs.SoundParts.{short_rows, sound-from, objects-of, marke
 use Rattle.ds_image.proofs.soundness.is_sound.Goals as goal
 
 pub returns-then-not-branch : goal.returns-then-not-branch
-returns-then-not-branch c = (
+returns-then-not-branch _ c = (
   λ wrong. absurd (false≢true wrong),
   λ sound. absurd (false≢true (sym c.if-not-branch.true ∙ c.in_ok-are_sound_objects.ensures.1 (objects-of c.args.parts.now sound))),
 )
 
 pub is_marked-requires : goal.is_marked-requires
-is_marked-requires c =
+is_marked-requires _ c =
     short_rows c.requires.geom c.requires.look c.args.parts.now c.requires.is_geom c.requires.reads (c.are_maps_spelled.ensures.0 c.if-not-are_maps_spelled.false)
 
 pub returns : goal.returns
-returns c =
+returns _ c =
     let p = c.args.parts.now in
     IfOk-weaker c.is_marked.result (λ yes. IsTrue yes ↔ IsMarked p) (λ yes. IsTrue yes ↔ IsSound p)
     (λ yes exact. (

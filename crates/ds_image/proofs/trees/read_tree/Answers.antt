@@ -9,7 +9,7 @@ use Rattle.ds_image.proofs.Standing.{stands_once}
 use Rattle.ds_image.proofs.trees.read_tree.Goals as goal
 
 pub returns-clause-only : goal.returns-clause-only
-returns-clause-only c =
+returns-clause-only _ c =
     let g = c.args.image.now.geom in
     let sectors = c.args.image.now.sectors in
     let Only : Option TreeValue → Type 0 = λ found. IfSome found (λ (it : TreeValue). (t : FileTree) → StandsFor g sectors t → t ≡ it.tree) in

@@ -9,17 +9,17 @@ use Rattle.ds_image.proofs.TreesThatStand.{tree-from_rooted}
 use Rattle.ds_image.proofs.trees.tree_in.Goals as goal
 
 pub returns-then-not-branch-clause-tree : goal.returns-then-not-branch-clause-tree
-returns-then-not-branch-clause-tree c =
+returns-then-not-branch-clause-tree _ c =
     none-unsound c.args.image.now.geom c.args.image.now.sectors c.in_ok-parts.parts c.in_ok-parts.ensures
     (λ sound. false≢true (sym c.if-not-branch.true ∙ c.in_ok-is_sound.ensures.1 sound))
 
 pub returns-then-not-branch-2-clause-tree : goal.returns-then-not-branch-2-clause-tree
-returns-then-not-branch-2-clause-tree c =
+returns-then-not-branch-2-clause-tree _ c =
     none-unrooted c.args.image.now.geom c.args.image.now.sectors c.in_ok-parts.parts c.in_ok-parts.ensures (c.in_ok-is_sound.ensures.0 c.if-not-branch.false)
     (λ rooted. false≢true (sym c.if-not-branch-2.true ∙ c.in_ok-is_rooted.ensures.1 rooted))
 
 pub tree_of-requires-clause-tree : goal.tree_of-requires-clause-tree
-tree_of-requires-clause-tree c =
+tree_of-requires-clause-tree _ c =
     subst (λ (g : Geom). IsTree g (tree_of c.in_ok-parts.parts)) (sym c.geom-geom.ensures.value)
     (tree-from_rooted c.args.image.now.geom (slice_get c.args.image.now.sectors) c.in_ok-parts.parts c.in_ok-parts.ensures (c.in_ok-is_sound.ensures.0 c.if-not-branch.false)
     (c.in_ok-is_rooted.ensures.0 c.if-not-branch-2.false))

@@ -1,0 +1,9 @@
+-- All so far are.
+use Rattle.std.proofs.Common.{take}
+use Rattle.std.specs.Prelude.{All}
+use Rattle.std.specs.Prelude.{IsSome}
+use Rattle.ds_image.specs.Parts.{part_at}
+use Rattle.ds_image.proofs.sound_objects.are_subs_spelled.Given as goal
+
+abbrev pub invariant-loop-number : goal.invariant-loop-number
+invariant-loop-number g l = All (λ n. IsSome (part_at l.parts.subs n)) (take l.number-index l.subs)
