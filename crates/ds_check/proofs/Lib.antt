@@ -17,6 +17,7 @@ pub mod NoBad
 pub mod NoFinds
 pub mod OneAnswer
 pub mod Pending
+pub mod PointedNumbers
 pub mod Reading
 pub mod RisingLists
 pub mod Rows

@@ -1,18 +1,16 @@
 //! The fourth stage of a check: addresses and rooms.
-ghost use Rattle.std.specs.Prelude.{◌≡◌, ◌+◌, ◌<◌, ◌≤◌, ◌++◌, ◌==◌, ◌&&◌, nat_lt, not, min, is_none, length, drop, slice_get, Some, OnOk};
+ghost use Rattle.std.specs.Prelude.{◌≡◌, ◌+◌, ◌/◌, ◌%◌, ◌<◌, ◌≤◌, ◌++◌, ◌==◌, ◌&&◌, nat_lt, not, min, is_none, length, drop, slice_get, Some, OnOk};
 ghost use Rattle.std.specs.List.{position_or_len};
 ghost use Rattle.ds_base.specs.Geometry.{items_of};
 ghost use Rattle.ds_base.specs.declared.names.NodeKind.TheVariants as kinds;
-ghost use Rattle.ds_image.specs.Objects.{ptrs_by, subs_by};
+ghost use Rattle.ds_image.specs.Objects.{addresses_in, ptrs_by, subs_by};
 ghost use Rattle.ds_image.specs.Parts.{part_at};
-ghost use Rattle.ds_check.specs.Addresses.{address_at, room_at};
+ghost use Rattle.ds_check.specs.Addresses.{pointer_block, is_first_used, is_bad_number, room_at};
+ghost use Rattle.ds_check.specs.Rows.{find_if};
+ghost use Rattle.ds_check.specs.declared.findings.Find.TheVariants as finds;
 ghost use Rattle.ds_check.specs.Objects.{
   is_outside,
-  pointed_at,
   is_bad_block,
-  past_last,
-  is_first_past,
-  is_bad_address,
   most_addresses,
   address_finds,
   misaddressed,
@@ -24,13 +22,13 @@ ghost use Rattle.ds_check.specs.Objects.{
 use crate::controls::descriptor_count;
 use crate::findings::Find;
 use crate::listed::{addresses_in, body_at, first, pointer_blocks};
-use crate::metadata::is_unread;
 use crate::reports::Report;
 use crate::rooms::subs_at;
 use crate::uses::item_count;
-use ds_base::{Geom, Kind, NoMemory, NodeKind, ObjNo};
+use ds_base::{Geom, Kind, NoMemory, NodeKind, ObjNo, Sector};
 use ds_fd::Body;
 use ds_image::PartsInMemory;
+use ds_ptr::PtrBlock;
 
 /// The most addresses that a body has, those in its pointer blocks among them.
 const MOST_ADDRESSES: usize = 96 * 128;
@@ -39,7 +37,7 @@ const MOST_ADDRESSES: usize = 96 * 128;
 pub(crate) fn note_addresses(
     report: &mut Report,
     geom: &Geom,
-    parts: &PartsInMemory,
+    parts: &PartsInMemory<&[Sector]>,
 ) -> Result<(), NoMemory>
     ensures { OnOk result (report.new ≡ report.old ++ addresses_stage geom.now parts.now) }
 {
@@ -50,7 +48,7 @@ pub(crate) fn note_addresses(
 fn note_misaddressed(
     report: &mut Report,
     geom: &Geom,
-    parts: &PartsInMemory,
+    parts: &PartsInMemory<&[Sector]>,
 ) -> Result<(), NoMemory>
     ensures { OnOk result (report.new ≡ report.old ++ misaddressed geom.now parts.now) }
 {
@@ -63,7 +61,7 @@ fn note_misaddressed(
 fn note_object(
     report: &mut Report,
     geom: &Geom,
-    parts: &PartsInMemory,
+    parts: &PartsInMemory<&[Sector]>,
     object: ObjNo,
     body: &Option<Body>,
 ) -> Result<(), NoMemory>
@@ -79,43 +77,83 @@ fn note_object(
 fn note_body(
     report: &mut Report,
     geom: &Geom,
-    parts: &PartsInMemory,
+    parts: &PartsInMemory<&[Sector]>,
     object: ObjNo,
     body: &Body,
 ) -> Result<(), NoMemory>
     ensures { OnOk result (report.new ≡ report.old ++ address_finds geom.now parts.now object (Some body.now)) }
 {
-    for index in 0..address_end(parts, body) {
-        note_address(report, geom, parts, object, body, index)?;
+    let last = pointer_block(parts, body, body.count / 128);
+    let past = rest(addresses_in(&last), (body.count % 128) as usize);
+    let mut block = None;
+    for index in 0..address_end(body, past) {
+        block = next_block(parts, body, index, block);
+        note_address(report, geom, object, body, &block, past, index)?;
     }
     Ok(())
 }
 
+/// A pointer block of a file, by its place among them.
+fn pointer_block(parts: &PartsInMemory<&[Sector]>, body: &Body, place: u32) -> Option<PtrBlock>
+    ensures { result ≡ pointer_block parts.now body.now place }
+{
+    match pointers(body).get(place as usize) {
+        None => None,
+        Some(number) => parts.ptr(*number),
+    }
+}
+
+/// The pointer block of an address, which is that of the address before unless it is the first in its block.
+fn next_block(
+    parts: &PartsInMemory<&[Sector]>,
+    body: &Body,
+    index: u32,
+    block: Option<PtrBlock>,
+) -> Option<PtrBlock>
+    requires { 0 < index % 128 → block ≡ pointer_block parts.now body.now (index / 128) }
+    ensures { result ≡ pointer_block parts.now body.now (index / 128) }
+{
+    if index % 128 == 0 {
+        pointer_block(parts, body, index / 128)
+    } else {
+        block
+    }
+}
+
+/// Notes an address of a body with which something is wrong, by its pointer block and the addresses past the body's last block.
 fn note_address(
     report: &mut Report,
     geom: &Geom,
-    parts: &PartsInMemory,
     object: ObjNo,
     body: &Body,
+    block: &Option<PtrBlock>,
+    past: &[u32],
     index: u32,
 ) -> Result<(), NoMemory>
-    ensures { OnOk result (report.new ≡ report.old ++ address_at geom.now parts.now object body.now index) }
+    ensures { OnOk result (report.new ≡ report.old
+        ++ find_if (is_bad_number geom.now body.now body.now.kind block.now past.now index) (finds.Address object index)) }
 {
-    let is_bad = is_bad_address(geom, parts, body, index);
+    let is_bad = is_bad_number(geom, body, block, past, index);
     report.note_if(is_bad, Find::Address { object, index })
 }
 
 /// The end of the addresses of a body with which something may be wrong.
 #[tactic(auto, unfolding(crate::specs::Objects::most_addresses))]
-fn address_end(parts: &PartsInMemory, body: &Body) -> u32
-    ensures { result ≡ min (body.now.count + length (past_last parts.now body.now)) most_addresses }
+fn address_end(body: &Body, past: &[u32]) -> u32
+    ensures { result ≡ min (body.now.count + length past.now) most_addresses }
 {
-    let end = body.count as usize + past_last(parts, body).len();
+    let end = body.count as usize + past.len();
     end.min(MOST_ADDRESSES) as u32
 }
 
-fn is_bad_address(geom: &Geom, parts: &PartsInMemory, body: &Body, index: u32) -> bool
-    ensures { result ≡ is_bad_address geom.now parts.now body.now body.now.kind index }
+fn is_bad_number(
+    geom: &Geom,
+    body: &Body,
+    block: &Option<PtrBlock>,
+    past: &[u32],
+    index: u32,
+) -> bool
+    ensures { result ≡ is_bad_number geom.now body.now body.now.kind block.now past.now index }
 {
     match body.kind {
         None => false,
@@ -125,13 +163,19 @@ fn is_bad_address(geom: &Geom, parts: &PartsInMemory, body: &Body, index: u32) -
             first(&body.addresses, body.count as usize),
             index,
         ),
-        Some(NodeKind::File) => is_bad_in_file(geom, parts, body, index),
+        Some(NodeKind::File) => is_bad_in_file(geom, body, block, past, index),
     }
 }
 
 /// Whether something is wrong with an address of a file.
-fn is_bad_in_file(geom: &Geom, parts: &PartsInMemory, body: &Body, index: u32) -> bool
-    ensures { result ≡ is_bad_address geom.now parts.now body.now (Some kinds.File) index }
+fn is_bad_in_file(
+    geom: &Geom,
+    body: &Body,
+    block: &Option<PtrBlock>,
+    past: &[u32],
+    index: u32,
+) -> bool
+    ensures { result ≡ is_bad_number geom.now body.now (Some kinds.File) block.now past.now index }
 {
     if body.count <= 96 {
         is_outside(
@@ -142,8 +186,8 @@ fn is_bad_in_file(geom: &Geom, parts: &PartsInMemory, body: &Body, index: u32) -
         )
     } else {
         is_outside(geom, Kind::Pb, pointers(body), index)
-            || (index < body.count && is_bad_block(geom, pointed_at(parts, body, index)))
-            || is_first_past(parts, body, index)
+            || (index < body.count && is_bad_block(geom, pointed_at(block, index)))
+            || is_first_used(past, body.count, index)
     }
 }
 
@@ -171,14 +215,11 @@ fn pointers(body: &Body) -> &[u32]
     first(&body.addresses, pointer_blocks(body.count))
 }
 
-/// The address of a file's block in its pointer block, where that is an item.
-fn pointed_at(parts: &PartsInMemory, body: &Body, index: u32) -> Option<u32>
-    ensures { result ≡ pointed_at parts.now body.now index }
+/// The address of a file's block in its pointer block.
+fn pointed_at(block: &Option<PtrBlock>, index: u32) -> Option<u32>
+    ensures { result ≡ slice_get (addresses_in block.now) (index % 128) }
 {
-    match pointers(body).get((index / 128) as usize) {
-        None => None,
-        Some(number) => number_at(addresses_in(parts, *number), (index % 128) as usize),
-    }
+    number_at(addresses_in(block), (index % 128) as usize)
 }
 
 fn number_at(addresses: &[u32], index: usize) -> Option<u32>
@@ -187,16 +228,6 @@ fn number_at(addresses: &[u32], index: usize) -> Option<u32>
     match addresses.get(index) {
         None => None,
         Some(address) => Some(*address),
-    }
-}
-
-/// The addresses past a file's last block in its last pointer block.
-fn past_last<'a>(parts: &'a PartsInMemory, body: &Body) -> &'a [u32]
-    ensures { result.now ≡ past_last parts.now body.now }
-{
-    match pointers(body).get((body.count / 128) as usize) {
-        None => &[],
-        Some(number) => rest(addresses_in(parts, *number), (body.count % 128) as usize),
     }
 }
 
@@ -209,15 +240,11 @@ fn rest(numbers: &[u32], count: usize) -> &[u32]
 }
 
 /// Whether this is the first address past a file's last block that isn't zero.
-fn is_first_past(parts: &PartsInMemory, body: &Body, index: u32) -> bool
-    ensures { result ≡ is_first_past parts.now body.now index }
+fn is_first_used(past: &[u32], count: u32, index: u32) -> bool
+    ensures { result ≡ is_first_used past.now count index }
 {
-    if index < body.count {
-        return false;
-    }
-    let past = past_last(parts, body);
     let first = first_used(past);
-    first < past.len() && index as usize == body.count as usize + first
+    first < past.len() && index as usize == count as usize + first
 }
 
 /// The place of the first number that isn't zero; their count, where all are.
@@ -232,7 +259,11 @@ fn first_used(numbers: &[u32]) -> usize
     numbers.len()
 }
 
-fn note_unroomed(report: &mut Report, geom: &Geom, parts: &PartsInMemory) -> Result<(), NoMemory>
+fn note_unroomed(
+    report: &mut Report,
+    geom: &Geom,
+    parts: &PartsInMemory<&[Sector]>,
+) -> Result<(), NoMemory>
     ensures { OnOk result (report.new ≡ report.old ++ unroomed geom.now parts.now) }
 {
     for object in 0..descriptor_count(geom) {
@@ -245,7 +276,7 @@ fn note_unroomed(report: &mut Report, geom: &Geom, parts: &PartsInMemory) -> Res
 fn note_rooms(
     report: &mut Report,
     geom: &Geom,
-    parts: &PartsInMemory,
+    parts: &PartsInMemory<&[Sector]>,
     object: ObjNo,
     subs: &[u32],
 ) -> Result<(), NoMemory>
@@ -261,7 +292,7 @@ fn note_rooms(
 fn note_room(
     report: &mut Report,
     geom: &Geom,
-    parts: &PartsInMemory,
+    parts: &PartsInMemory<&[Sector]>,
     object: ObjNo,
     subs: &[u32],
     i: usize,
@@ -276,8 +307,8 @@ fn note_room(
 }
 
 /// Whether a sub-block is an item without its form.
-fn is_unformed(geom: &Geom, parts: &PartsInMemory, number: u32) -> bool
+fn is_unformed(geom: &Geom, parts: &PartsInMemory<&[Sector]>, number: u32) -> bool
     ensures { result ≡ (nat_lt number (items_of geom.now Kind.Sb) && is_none (part_at parts.now.subs number)) }
 {
-    number < item_count(geom, Kind::Sb) && is_unread(parts.subs(), number as usize)
+    number < item_count(geom, Kind::Sb) && parts.sub(number).is_none()
 }

@@ -102,7 +102,11 @@ fn found_behind(alloc: Global, geom: &Geom, sectors: &[Sector]) -> Result<Report
 }
 
 /// What is found in the parts of the logical image.
-fn found_in(alloc: Global, geom: &Geom, parts: &PartsInMemory) -> Result<Report, NoMemory>
+fn found_in(
+    alloc: Global,
+    geom: &Geom,
+    parts: &PartsInMemory<&[Sector]>,
+) -> Result<Report, NoMemory>
     requires geom { IsGeom geom.now }
     requires count { length parts.now.bodies ≡ items_of geom.now Kind.Fd }
     ensures { IfOk result (AreFoundIn geom.now parts.now) }
@@ -121,7 +125,7 @@ fn found_in(alloc: Global, geom: &Geom, parts: &PartsInMemory) -> Result<Report,
 fn note_addresses_next(
     report: &mut Report,
     geom: &Geom,
-    parts: &PartsInMemory,
+    parts: &PartsInMemory<&[Sector]>,
 ) -> Result<(), NoMemory>
     ensures { OnOk result (report.new ≡ first_found (report.old ∷ addresses_stage geom.now parts.now ∷ [])) }
 {
@@ -137,7 +141,7 @@ fn note_sharing_next(
     report: &mut Report,
     alloc: Global,
     geom: &Geom,
-    parts: &PartsInMemory,
+    parts: &PartsInMemory<&[Sector]>,
 ) -> Result<(), NoMemory>
     ensures { OnOk result (report.new ≡ first_found (report.old ∷ sharing_stage geom.now parts.now ∷ [])) }
 {
@@ -153,7 +157,7 @@ fn note_marking_next(
     report: &mut Report,
     alloc: Global,
     geom: &Geom,
-    parts: &PartsInMemory,
+    parts: &PartsInMemory<&[Sector]>,
 ) -> Result<(), NoMemory>
     ensures { OnOk result (report.new ≡ first_found (report.old ∷ marking_stage geom.now parts.now ∷ [])) }
 {
@@ -172,7 +176,7 @@ fn note_naming_next(
     report: &mut Report,
     alloc: Global,
     geom: &Geom,
-    parts: &PartsInMemory,
+    parts: &PartsInMemory<&[Sector]>,
 ) -> Result<(), NoMemory>
     requires { IsGeom geom.now }
     ensures { OnOk result (report.new ≡ first_found (report.old ∷ naming_stage geom.now parts.now ∷ [])) }
@@ -189,7 +193,7 @@ fn note_lost_next(
     report: &mut Report,
     alloc: Global,
     geom: &Geom,
-    parts: &PartsInMemory,
+    parts: &PartsInMemory<&[Sector]>,
 ) -> Result<(), NoMemory>
     requires count { length parts.now.bodies ≡ items_of geom.now Kind.Fd }
     requires found { report.old ≡ found_in geom.now parts.now }

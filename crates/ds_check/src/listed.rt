@@ -6,13 +6,14 @@ ghost use Rattle.ds_image.specs.Objects.{subs_of, ptrs_of, blocks_of, addresses_
 ghost use Rattle.ds_image.specs.Parts.{part_at};
 ghost use Rattle.ds_check.specs.Objects.{listed_by};
 
-use ds_base::{Kind, NoMemory, NodeKind, ObjNo};
+use ds_base::{Kind, NoMemory, NodeKind, ObjNo, Sector};
 use ds_fd::Body;
 use ds_image::PartsInMemory;
+use ds_ptr::PtrBlock;
 use std::alloc::Global;
 
 /// The body of an object; none of an object past the last.
-pub(crate) fn body_at(parts: &PartsInMemory, object: ObjNo) -> &Option<Body>
+pub(crate) fn body_at<'a>(parts: &'a PartsInMemory<&[Sector]>, object: ObjNo) -> &'a Option<Body>
     ensures { result.now ≡ part_at parts.now.bodies object }
 {
     match parts.bodies().get(object as usize) {
@@ -24,7 +25,7 @@ pub(crate) fn body_at(parts: &PartsInMemory, object: ObjNo) -> &Option<Body>
 /// The items of a kind that an object lists.
 pub(crate) fn listed_by(
     alloc: Global,
-    parts: &PartsInMemory,
+    parts: &PartsInMemory<&[Sector]>,
     kind: Kind,
     body: &Option<Body>,
 ) -> Result<Vec<u32>, NoMemory>
@@ -92,7 +93,7 @@ pub(crate) fn pointer_blocks(count: u32) -> usize
 /// The blocks of a file; none of anything else.
 fn blocks_of(
     alloc: Global,
-    parts: &PartsInMemory,
+    parts: &PartsInMemory<&[Sector]>,
     body: &Option<Body>,
 ) -> Result<Vec<u32>, NoMemory>
     ensures { IfOk result (λ v. v.items ≡ blocks_of parts.now body.now) }
@@ -113,23 +114,29 @@ fn blocks_of(
 }
 
 /// The addresses in pointer blocks, one block after another.
-fn pointed_by(alloc: Global, parts: &PartsInMemory, ptrs: &[u32]) -> Result<Vec<u32>, NoMemory>
+fn pointed_by(
+    alloc: Global,
+    parts: &PartsInMemory<&[Sector]>,
+    ptrs: &[u32],
+) -> Result<Vec<u32>, NoMemory>
     ensures { IfOk result (λ v. v.items ≡ flat_map (λ n. addresses_in (part_at parts.now.ptrs n)) ptrs.now) }
 {
     let mut addresses = Vec::new(alloc);
     for number in ptrs {
+        let block = parts.ptr(*number);
         addresses
-            .extend_from_slice(addresses_in(parts, *number))
+            .extend_from_slice(addresses_in(&block))
             .map_err(|_| NoMemory)?;
     }
     Ok(addresses)
 }
 
-pub(crate) fn addresses_in(parts: &PartsInMemory, number: u32) -> &[u32]
-    ensures { result.now ≡ addresses_in (part_at parts.now.ptrs number) }
+/// The addresses in a pointer block; one that is not spelled has none.
+pub(crate) fn addresses_in(block: &Option<PtrBlock>) -> &[u32]
+    ensures { result.now ≡ addresses_in block.now }
 {
-    match parts.ptrs().get(number as usize) {
-        Some(Some(block)) => &block.addresses,
-        _ => &[],
+    match block {
+        Some(block) => &block.addresses,
+        None => &[],
     }
 }

@@ -13,7 +13,7 @@ use crate::findings::Find;
 use crate::naming::{is_used, named_in};
 use crate::reports::Report;
 use crate::rooms::rooms_at;
-use ds_base::{Geom, Kind, NoMemory, ObjNo};
+use ds_base::{Geom, Kind, NoMemory, ObjNo, Sector};
 use ds_dir::Entry;
 use ds_image::{PartsInMemory, reached};
 use std::alloc::Global;
@@ -23,7 +23,7 @@ pub(crate) fn note_lost(
     report: &mut Report,
     alloc: Global,
     geom: &Geom,
-    parts: &PartsInMemory,
+    parts: &PartsInMemory<&[Sector]>,
 ) -> Result<(), NoMemory>
     requires count { length parts.now.bodies ≡ items_of geom.now Kind.Fd }
     requires named { naming_stage geom.now parts.now ≡ [] }
@@ -38,7 +38,7 @@ pub(crate) fn note_lost(
 fn parents_of(
     alloc: Global,
     geom: &Geom,
-    parts: &PartsInMemory,
+    parts: &PartsInMemory<&[Sector]>,
 ) -> Result<Vec<Option<u32>>, NoMemory>
     ensures count { IfOk result (λ parents. length parents.items ≡ items_of geom.now Kind.Fd) }
     ensures namers { IfOk result (λ parents. AreNamers parts.now (items_of geom.now Kind.Fd) parents.items) }
@@ -57,7 +57,7 @@ fn parents_of(
 /// Gives the objects that a directory's rooms name this parent.
 fn set_parents(
     parents: &mut [Option<u32>],
-    parts: &PartsInMemory,
+    parts: &PartsInMemory<&[Sector]>,
     rooms: &[Option<Entry>],
     dir: ObjNo,
 )
@@ -83,7 +83,7 @@ fn set_parent(parents: &mut [Option<u32>], object: Option<u32>, dir: ObjNo)
 fn note_unreached(
     report: &mut Report,
     geom: &Geom,
-    parts: &PartsInMemory,
+    parts: &PartsInMemory<&[Sector]>,
     reached: &[bool],
 ) -> Result<(), NoMemory>
     ensures { OnOk result (report.new ≡ report.old ++ row (items_of geom.now Kind.Fd) (unreached_at parts.now reached.now)) }
@@ -94,7 +94,7 @@ fn note_unreached(
     Ok(())
 }
 
-fn is_unreached(parts: &PartsInMemory, reached: &[bool], object: ObjNo) -> bool
+fn is_unreached(parts: &PartsInMemory<&[Sector]>, reached: &[bool], object: ObjNo) -> bool
     ensures { result ≡ is_unreached parts.now reached.now object }
 {
     is_used(parts, object) && !is_reached(reached, object)

@@ -15,7 +15,7 @@ use crate::findings::Find;
 use crate::listed::body_at;
 use crate::reports::Report;
 use crate::uses::{item_count, users_of};
-use ds_base::{Geom, Kind, NoMemory};
+use ds_base::{Geom, Kind, NoMemory, Sector};
 use ds_fd::Body;
 use ds_image::PartsInMemory;
 use std::alloc::Global;
@@ -25,7 +25,7 @@ pub(crate) fn note_marking(
     report: &mut Report,
     alloc: Global,
     geom: &Geom,
-    parts: &PartsInMemory,
+    parts: &PartsInMemory<&[Sector]>,
     fd_bits: &[bool],
     sb_bits: &[bool],
     pb_bits: &[bool],
@@ -47,7 +47,7 @@ fn note_mismarked(
     report: &mut Report,
     alloc: Global,
     geom: &Geom,
-    parts: &PartsInMemory,
+    parts: &PartsInMemory<&[Sector]>,
     kind: Kind,
     marked: &[bool],
 ) -> Result<(), NoMemory>
@@ -112,7 +112,7 @@ fn bit(bits: &[bool], item: u32) -> bool
 fn used_of(
     alloc: Global,
     geom: &Geom,
-    parts: &PartsInMemory,
+    parts: &PartsInMemory<&[Sector]>,
     kind: Kind,
 ) -> Result<Vec<bool>, NoMemory>
     ensures { IfOk result (λ v. v.items ≡ map (is_in_use geom.now parts.now kind) (range_with_len 0 (items_of geom.now kind))) }
@@ -129,7 +129,7 @@ fn used_of(
 fn descriptors_in_use(
     alloc: Global,
     geom: &Geom,
-    parts: &PartsInMemory,
+    parts: &PartsInMemory<&[Sector]>,
 ) -> Result<Vec<bool>, NoMemory>
     ensures { IfOk result (λ v. v.items
         ≡ map (λ n. is_used (part_at parts.now.bodies n)) (range_with_len 0 (items_of geom.now Kind.Fd))) }
@@ -155,7 +155,7 @@ fn is_used(body: &Option<Body>) -> bool
 fn listed_items(
     alloc: Global,
     geom: &Geom,
-    parts: &PartsInMemory,
+    parts: &PartsInMemory<&[Sector]>,
     kind: Kind,
 ) -> Result<Vec<bool>, NoMemory>
     ensures { IfOk result (λ v. v.items
@@ -173,7 +173,7 @@ fn listed_items(
 #[cfg(test)]
 mod tests {
     use super::*;
-    use crate::small_volume::{SMALL, parts};
+    use crate::small_volume::{SMALL, image_of, sectors};
     use std::test::Fail;
 
     #[test]
@@ -181,7 +181,10 @@ mod tests {
         rt: HostRuntime,
     ) -> Result<(), Fail> {
         let alloc = rt.alloc();
-        let parts = parts(alloc)?;
+        let sectors = sectors(alloc)?;
+        let sectors = sectors.as_slice();
+        let image = image_of(alloc, &sectors)?;
+        let parts = PartsInMemory::read(alloc, &image)?;
         let descriptors = used_of(alloc, &SMALL, &parts, Kind::Fd)?;
         assert_eq!(rt;
             descriptors.as_slice(),

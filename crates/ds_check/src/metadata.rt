@@ -8,7 +8,7 @@ ghost use Rattle.ds_check.specs.Objects.{bitmap_form, body_form, unread, is_root
 use crate::controls::{cluster_count, descriptor_count};
 use crate::findings::Find;
 use crate::reports::Report;
-use ds_base::{Geom, Kind, NoMemory, NodeKind, ObjNo};
+use ds_base::{Geom, Kind, NoMemory, NodeKind, ObjNo, Sector};
 use ds_fd::Body;
 use ds_image::PartsInMemory;
 use ds_layout::{Place, sector_of};
@@ -17,7 +17,7 @@ use ds_layout::{Place, sector_of};
 pub(crate) fn note_metadata(
     report: &mut Report,
     geom: &Geom,
-    parts: &PartsInMemory,
+    parts: &PartsInMemory<&[Sector]>,
 ) -> Result<(), NoMemory>
     requires { IsGeom geom.now }
     ensures { OnOk result (report.new ≡ report.old ++ metadata_stage geom.now parts.now) }
@@ -26,7 +26,11 @@ pub(crate) fn note_metadata(
     report.note_if(!has_root(parts), Find::Root)
 }
 
-fn note_unread(report: &mut Report, geom: &Geom, parts: &PartsInMemory) -> Result<(), NoMemory>
+fn note_unread(
+    report: &mut Report,
+    geom: &Geom,
+    parts: &PartsInMemory<&[Sector]>,
+) -> Result<(), NoMemory>
     requires { IsGeom geom.now }
     ensures { OnOk result (report.new ≡ report.old ++ unread geom.now parts.now) }
 {
@@ -34,7 +38,11 @@ fn note_unread(report: &mut Report, geom: &Geom, parts: &PartsInMemory) -> Resul
     note_bodies(report, geom, parts)
 }
 
-fn note_all_bitmaps(report: &mut Report, geom: &Geom, parts: &PartsInMemory) -> Result<(), NoMemory>
+fn note_all_bitmaps(
+    report: &mut Report,
+    geom: &Geom,
+    parts: &PartsInMemory<&[Sector]>,
+) -> Result<(), NoMemory>
     requires { IsGeom geom.now }
     ensures { OnOk result (report.new ≡ report.old
         ++ row_of_kinds (λ kind. row (clusters_of geom.now kind) (bitmap_form geom.now parts.now kind))) }
@@ -48,7 +56,7 @@ fn note_all_bitmaps(report: &mut Report, geom: &Geom, parts: &PartsInMemory) -> 
 fn note_bitmaps(
     report: &mut Report,
     geom: &Geom,
-    parts: &PartsInMemory,
+    parts: &PartsInMemory<&[Sector]>,
     kind: Kind,
 ) -> Result<(), NoMemory>
     requires { IsGeom geom.now }
@@ -63,7 +71,7 @@ fn note_bitmaps(
 fn note_bitmap(
     report: &mut Report,
     geom: &Geom,
-    parts: &PartsInMemory,
+    parts: &PartsInMemory<&[Sector]>,
     kind: Kind,
     cluster: u8,
 ) -> Result<(), NoMemory>
@@ -76,7 +84,11 @@ fn note_bitmap(
     report.note_if(is_unread, Find::MetaForm { sector })
 }
 
-fn note_bodies(report: &mut Report, geom: &Geom, parts: &PartsInMemory) -> Result<(), NoMemory>
+fn note_bodies(
+    report: &mut Report,
+    geom: &Geom,
+    parts: &PartsInMemory<&[Sector]>,
+) -> Result<(), NoMemory>
     requires { IsGeom geom.now }
     ensures { OnOk result (report.new ≡ report.old ++ row (items_of geom.now Kind.Fd) (body_form geom.now parts.now)) }
 {
@@ -89,7 +101,7 @@ fn note_bodies(report: &mut Report, geom: &Geom, parts: &PartsInMemory) -> Resul
 fn note_body(
     report: &mut Report,
     geom: &Geom,
-    parts: &PartsInMemory,
+    parts: &PartsInMemory<&[Sector]>,
     object: ObjNo,
 ) -> Result<(), NoMemory>
     requires geom { IsGeom geom.now }
@@ -112,7 +124,7 @@ pub(crate) fn is_unread<T>(parts: &[Option<T>], number: usize) -> bool
 }
 
 /// Whether object 0 is a directory with birth 1.
-fn has_root(parts: &PartsInMemory) -> bool
+fn has_root(parts: &PartsInMemory<&[Sector]>) -> bool
     ensures { result ≡ is_root (part_at parts.now.bodies 0) }
 {
     match parts.bodies().get(0) {

@@ -45,7 +45,7 @@ use crate::controls::descriptor_count;
 use crate::findings::Find;
 use crate::reports::Report;
 use crate::rooms::rooms_at;
-use ds_base::{Geom, Kind, Name, NoMemory, NodeKind, ObjNo};
+use ds_base::{Geom, Kind, Name, NoMemory, NodeKind, ObjNo, Sector};
 use ds_dir::Entry;
 use ds_image::{NameCounts, PartsInMemory};
 use std::alloc::Global;
@@ -56,7 +56,7 @@ pub(crate) fn note_naming(
     report: &mut Report,
     alloc: Global,
     geom: &Geom,
-    parts: &PartsInMemory,
+    parts: &PartsInMemory<&[Sector]>,
 ) -> Result<(), NoMemory>
     requires { IsGeom geom.now }
     ensures { OnOk result (report.new ≡ report.old ++ naming_stage geom.now parts.now) }
@@ -70,7 +70,7 @@ fn note_dangling(
     report: &mut Report,
     alloc: Global,
     geom: &Geom,
-    parts: &PartsInMemory,
+    parts: &PartsInMemory<&[Sector]>,
 ) -> Result<(), NoMemory>
     ensures { OnOk result (report.new ≡ report.old ++ dangling geom.now parts.now) }
 {
@@ -83,7 +83,7 @@ fn note_dangling(
 fn note_dangling_at(
     report: &mut Report,
     alloc: Global,
-    parts: &PartsInMemory,
+    parts: &PartsInMemory<&[Sector]>,
     object: ObjNo,
 ) -> Result<(), NoMemory>
     ensures { OnOk result (report.new ≡ report.old ++ dangling_in parts.now object (rooms_at parts.now object)) }
@@ -95,7 +95,7 @@ fn note_dangling_at(
 /// Notes the rooms of one directory whose object isn't there.
 fn note_dangling_in(
     report: &mut Report,
-    parts: &PartsInMemory,
+    parts: &PartsInMemory<&[Sector]>,
     object: ObjNo,
     rooms: &[Option<Entry>],
 ) -> Result<(), NoMemory>
@@ -114,7 +114,7 @@ fn note_dangling_in(
     Ok(())
 }
 
-fn is_dangling(parts: &PartsInMemory, room: &Option<Entry>) -> bool
+fn is_dangling(parts: &PartsInMemory<&[Sector]>, room: &Option<Entry>) -> bool
     ensures { result ≡ is_dangling parts.now room.now }
 {
     match room {
@@ -124,7 +124,7 @@ fn is_dangling(parts: &PartsInMemory, room: &Option<Entry>) -> bool
 }
 
 /// Whether the object of an entry is in use in that life, and of that kind.
-fn is_there(parts: &PartsInMemory, entry: &Entry) -> bool
+fn is_there(parts: &PartsInMemory<&[Sector]>, entry: &Entry) -> bool
     ensures { result ≡ is_body_of entry.now (part_at parts.now.bodies entry.now.key.object) }
 {
     match parts.bodies().get(entry.key.object as usize) {
@@ -146,7 +146,7 @@ fn note_repeated(
     report: &mut Report,
     alloc: Global,
     geom: &Geom,
-    parts: &PartsInMemory,
+    parts: &PartsInMemory<&[Sector]>,
 ) -> Result<(), NoMemory>
     ensures { OnOk result (report.new ≡ report.old ++ repeated geom.now parts.now) }
 {
@@ -159,7 +159,7 @@ fn note_repeated(
 fn note_repeated_at(
     report: &mut Report,
     alloc: Global,
-    parts: &PartsInMemory,
+    parts: &PartsInMemory<&[Sector]>,
     object: ObjNo,
 ) -> Result<(), NoMemory>
     ensures { OnOk result (report.new ≡ report.old ++ repeated_in object (rooms_at parts.now object)) }
@@ -216,7 +216,7 @@ fn note_misnamed(
     report: &mut Report,
     alloc: Global,
     geom: &Geom,
-    parts: &PartsInMemory,
+    parts: &PartsInMemory<&[Sector]>,
 ) -> Result<(), NoMemory>
     requires { IsGeom geom.now }
     ensures { OnOk result (report.new ≡ report.old ++ misnamed geom.now parts.now) }
@@ -232,7 +232,7 @@ fn note_misnamed(
 fn note_names(
     report: &mut Report,
     geom: &Geom,
-    parts: &PartsInMemory,
+    parts: &PartsInMemory<&[Sector]>,
     counts: &NameCounts,
     object: ObjNo,
 ) -> Result<(), NoMemory>
@@ -259,7 +259,7 @@ fn wanted_names(object: ObjNo) -> u64
     if object == 0 { 0 } else { 1 }
 }
 
-pub(crate) fn is_used(parts: &PartsInMemory, object: ObjNo) -> bool
+pub(crate) fn is_used(parts: &PartsInMemory<&[Sector]>, object: ObjNo) -> bool
     ensures { result ≡ is_used (part_at parts.now.bodies object) }
 {
     match parts.bodies().get(object as usize) {
@@ -269,7 +269,11 @@ pub(crate) fn is_used(parts: &PartsInMemory, object: ObjNo) -> bool
 }
 
 /// How many names each object has.
-fn count_names(alloc: Global, geom: &Geom, parts: &PartsInMemory) -> Result<NameCounts, NoMemory>
+fn count_names(
+    alloc: Global,
+    geom: &Geom,
+    parts: &PartsInMemory<&[Sector]>,
+) -> Result<NameCounts, NoMemory>
     requires { IsGeom geom.now }
     ensures few { IfOk result (λ _. length (all_named geom.now parts.now) ≤ 384 * items_of geom.now Kind.Fd) }
     ensures count { IfOk result (λ counts. length counts ≡ items_of geom.now Kind.Fd) }
@@ -285,7 +289,12 @@ fn count_names(alloc: Global, geom: &Geom, parts: &PartsInMemory) -> Result<Name
 }
 
 /// Counts the names that stand in the rooms of a directory.
-fn count_rooms(counts: &mut NameCounts, count: u32, parts: &PartsInMemory, rooms: &[Option<Entry>])
+fn count_rooms(
+    counts: &mut NameCounts,
+    count: u32,
+    parts: &PartsInMemory<&[Sector]>,
+    rooms: &[Option<Entry>],
+)
     requires { count ≡ length counts.old }
     ensures count { length counts.new ≡ length counts.old }
     ensures counted { (named : List ℕ) → length named + length rooms.now < 2 ^ 64 - 1 → CountsNames counts.old named
@@ -296,7 +305,12 @@ fn count_rooms(counts: &mut NameCounts, count: u32, parts: &PartsInMemory, rooms
     }
 }
 
-fn count_room(counts: &mut NameCounts, count: u32, parts: &PartsInMemory, room: &Option<Entry>)
+fn count_room(
+    counts: &mut NameCounts,
+    count: u32,
+    parts: &PartsInMemory<&[Sector]>,
+    room: &Option<Entry>,
+)
     requires { count ≡ length counts.old }
     ensures count { length counts.new ≡ length counts.old }
     ensures counted { (named : List ℕ) → length named < 2 ^ 64 - 1 → CountsNames counts.old named
@@ -310,7 +324,7 @@ fn count_room(counts: &mut NameCounts, count: u32, parts: &PartsInMemory, room: 
 }
 
 /// The object that a room names, where the object is there.
-pub(crate) fn named_in(parts: &PartsInMemory, room: &Option<Entry>) -> Option<u32>
+pub(crate) fn named_in(parts: &PartsInMemory<&[Sector]>, room: &Option<Entry>) -> Option<u32>
     ensures { result ≡ named_in parts.now room.now }
 {
     match room {

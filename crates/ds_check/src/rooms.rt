@@ -5,15 +5,15 @@ ghost use Rattle.ds_image.specs.Parts.{part_at};
 ghost use Rattle.ds_check.specs.Objects.{rooms_at};
 
 use crate::listed::{body_at, subs_of};
-use ds_base::{NoMemory, ObjNo};
-use ds_dir::Entry;
+use ds_base::{NoMemory, ObjNo, Sector};
+use ds_dir::{Entry, SubBlock};
 use ds_image::PartsInMemory;
 use std::alloc::Global;
 
 /// The rooms of an object, where it is a directory; at most 384.
 pub(crate) fn rooms_at(
     alloc: Global,
-    parts: &PartsInMemory,
+    parts: &PartsInMemory<&[Sector]>,
     object: ObjNo,
 ) -> Result<Vec<Option<Entry>>, NoMemory>
     ensures exact { IfOk result (λ rooms. rooms.items ≡ rooms_at parts.now object) }
@@ -23,7 +23,7 @@ pub(crate) fn rooms_at(
 }
 
 /// The sub-blocks that an object lists.
-pub(crate) fn subs_at(parts: &PartsInMemory, object: ObjNo) -> &[u32]
+pub(crate) fn subs_at<'a>(parts: &'a PartsInMemory<&[Sector]>, object: ObjNo) -> &'a [u32]
     ensures exact { result.now ≡ subs_of (part_at parts.now.bodies object) }
     ensures few { length result.now ≤ 96 }
 {
@@ -33,7 +33,7 @@ pub(crate) fn subs_at(parts: &PartsInMemory, object: ObjNo) -> &[u32]
 /// The rooms of sub-blocks, one sub-block after another.
 fn rooms_of(
     alloc: Global,
-    parts: &PartsInMemory,
+    parts: &PartsInMemory<&[Sector]>,
     subs: &[u32],
 ) -> Result<Vec<Option<Entry>>, NoMemory>
     requires { length subs.now ≤ 96 }
@@ -42,18 +42,19 @@ fn rooms_of(
 {
     let mut rooms = Vec::new(alloc);
     for number in subs {
-        push_rooms(&mut rooms, rooms_in(parts, *number))?;
+        let block = parts.sub(*number);
+        push_rooms(&mut rooms, rooms_in(&block))?;
     }
     Ok(rooms)
 }
 
-fn rooms_in(parts: &PartsInMemory, number: u32) -> &[Option<Entry>]
-    ensures exact { result.now ≡ rooms_in (part_at parts.now.subs number) }
+fn rooms_in(block: &Option<SubBlock>) -> &[Option<Entry>]
+    ensures exact { result.now ≡ rooms_in block.now }
     ensures few { length result.now ≤ 4 }
 {
-    match parts.subs().get(number as usize) {
-        Some(Some(block)) => &block.rooms,
-        _ => &[],
+    match block {
+        Some(block) => &block.rooms,
+        None => &[],
     }
 }
 

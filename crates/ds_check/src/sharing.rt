@@ -5,7 +5,7 @@ ghost use Rattle.ds_check.specs.Objects.{twice, shared_items, sharing_stage};
 use crate::findings::Find;
 use crate::reports::Report;
 use crate::uses::{item_count, users_of};
-use ds_base::{Geom, Kind, NoMemory};
+use ds_base::{Geom, Kind, NoMemory, Sector};
 use ds_image::PartsInMemory;
 use std::alloc::Global;
 
@@ -14,7 +14,7 @@ pub(crate) fn note_sharing(
     report: &mut Report,
     alloc: Global,
     geom: &Geom,
-    parts: &PartsInMemory,
+    parts: &PartsInMemory<&[Sector]>,
 ) -> Result<(), NoMemory>
     ensures { OnOk result (report.new ≡ report.old ++ sharing_stage geom.now parts.now) }
 {
@@ -28,7 +28,7 @@ fn note_shared(
     report: &mut Report,
     alloc: Global,
     geom: &Geom,
-    parts: &PartsInMemory,
+    parts: &PartsInMemory<&[Sector]>,
     kind: Kind,
 ) -> Result<(), NoMemory>
     ensures { OnOk result (report.new ≡ report.old ++ shared_items geom.now parts.now kind) }
@@ -68,7 +68,7 @@ fn note_twice(
 #[cfg(test)]
 mod tests {
     use super::*;
-    use crate::small_volume::{SMALL, parts};
+    use crate::small_volume::{SMALL, image_of, sectors};
     use std::test::Fail;
 
     #[test]
@@ -76,7 +76,10 @@ mod tests {
         rt: HostRuntime,
     ) -> Result<(), Fail> {
         let alloc = rt.alloc();
-        let parts = parts(alloc)?;
+        let sectors = sectors(alloc)?;
+        let sectors = sectors.as_slice();
+        let image = image_of(alloc, &sectors)?;
+        let parts = PartsInMemory::read(alloc, &image)?;
         let mut report = Report::new(alloc);
         note_sharing(&mut report, alloc, &SMALL, &parts)?;
         let lines = b"sb 1 twice 0 0\nfb 0 twice 1 3\nfb 2 twice 1 2\n";

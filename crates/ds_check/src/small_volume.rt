@@ -2,7 +2,7 @@
 
 use ds_base::{Geom, NodeKind, Sector};
 use ds_fd::Body;
-use ds_image::{PartsInMemory, overlay};
+use ds_image::{Image, overlay};
 use ds_layout::total;
 use ds_marks::{Header, Journal, Slot, SlotState};
 use std::alloc::Global;
@@ -75,19 +75,25 @@ fn put_marks(sectors: &mut [Sector]) {
     }
 }
 
-/// The parts of the volume: object 0 lists sub-block 1 twice, object 1 the blocks 0 and 2, object 2 the blocks 2, 9 and 2, and
+/// The sectors of the volume: object 0 lists sub-block 1 twice, object 1 the blocks 0 and 2, object 2 the blocks 2, 9 and 2, and
 /// object 3 the pointer block 1 and, 97 times, block 0; 4 has no body, and no cluster a bitmap.
-pub(crate) fn parts(alloc: Global) -> Result<PartsInMemory, Fail> {
+pub(crate) fn sectors(alloc: Global) -> Result<Vec<Sector>, Fail> {
     let mut sectors = vec![in alloc; Sector::zero(); 61]?;
     put_marks(&mut sectors);
     put_body(&mut sectors, 0, NodeKind::Dir, 2, [1, 1, 0]);
     put_body(&mut sectors, 1, NodeKind::File, 2, [0, 2, 0]);
     put_body(&mut sectors, 2, NodeKind::File, 3, [2, 9, 2]);
     put_body(&mut sectors, 3, NodeKind::File, 97, [1, 0, 0]);
+    Ok(sectors)
+}
+
+/// The logical image of the volume.
+pub(crate) fn image_of<'a, 'b>(
+    alloc: Global,
+    sectors: &'a &'b [Sector],
+) -> Result<Image<'a, &'b [Sector]>, Fail> {
     if SMALL.check().is_err() || sectors.len() != total(&SMALL) as usize {
         return Err(Fail::new("the volume has another size"));
     }
-    let store = sectors.as_slice();
-    let image = overlay(alloc, &SMALL, &store)?;
-    Ok(PartsInMemory::read(alloc, &image)?)
+    Ok(overlay(alloc, &SMALL, sectors)?)
 }

@@ -7,7 +7,7 @@ ghost use Rattle.ds_check.specs.Objects.{listed_by, uses_of};
 
 use crate::controls::descriptor_count;
 use crate::listed::{body_at, listed_by};
-use ds_base::{Geom, Kind, NoMemory, ObjNo};
+use ds_base::{Geom, Kind, NoMemory, ObjNo, Sector};
 use ds_image::{PartsInMemory, Users};
 use std::alloc::Global;
 
@@ -15,7 +15,7 @@ use std::alloc::Global;
 pub(crate) fn users_of(
     alloc: Global,
     geom: &Geom,
-    parts: &PartsInMemory,
+    parts: &PartsInMemory<&[Sector]>,
     kind: Kind,
 ) -> Result<Users, NoMemory>
     ensures count { IfOk result (λ table. length table ≡ items_of geom.now kind) }
