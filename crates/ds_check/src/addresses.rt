@@ -94,11 +94,7 @@ fn note_body(
 }
 
 /// A pointer block of a file, by its place among them.
-fn pointer_block(
-    parts: &PartsInMemory<&[Sector]>,
-    body: &Body,
-    place: u32,
-) -> Option<PtrBlock>
+fn pointer_block(parts: &PartsInMemory<&[Sector]>, body: &Body, place: u32) -> Option<PtrBlock>
     ensures { result ≡ pointer_block parts.now body.now place }
 {
     match pointers(body).get(place as usize) {
@@ -263,7 +259,11 @@ fn first_used(numbers: &[u32]) -> usize
     numbers.len()
 }
 
-fn note_unroomed(report: &mut Report, geom: &Geom, parts: &PartsInMemory<&[Sector]>) -> Result<(), NoMemory>
+fn note_unroomed(
+    report: &mut Report,
+    geom: &Geom,
+    parts: &PartsInMemory<&[Sector]>,
+) -> Result<(), NoMemory>
     ensures { OnOk result (report.new ≡ report.old ++ unroomed geom.now parts.now) }
 {
     for object in 0..descriptor_count(geom) {

@@ -102,7 +102,11 @@ fn found_behind(alloc: Global, geom: &Geom, sectors: &[Sector]) -> Result<Report
 }
 
 /// What is found in the parts of the logical image.
-fn found_in(alloc: Global, geom: &Geom, parts: &PartsInMemory<&[Sector]>) -> Result<Report, NoMemory>
+fn found_in(
+    alloc: Global,
+    geom: &Geom,
+    parts: &PartsInMemory<&[Sector]>,
+) -> Result<Report, NoMemory>
     requires geom { IsGeom geom.now }
     requires count { length parts.now.bodies ≡ items_of geom.now Kind.Fd }
     ensures { IfOk result (AreFoundIn geom.now parts.now) }

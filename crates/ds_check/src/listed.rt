@@ -114,7 +114,11 @@ fn blocks_of(
 }
 
 /// The addresses in pointer blocks, one block after another.
-fn pointed_by(alloc: Global, parts: &PartsInMemory<&[Sector]>, ptrs: &[u32]) -> Result<Vec<u32>, NoMemory>
+fn pointed_by(
+    alloc: Global,
+    parts: &PartsInMemory<&[Sector]>,
+    ptrs: &[u32],
+) -> Result<Vec<u32>, NoMemory>
     ensures { IfOk result (λ v. v.items ≡ flat_map (λ n. addresses_in (part_at parts.now.ptrs n)) ptrs.now) }
 {
     let mut addresses = Vec::new(alloc);

@@ -26,7 +26,11 @@ pub(crate) fn note_metadata(
     report.note_if(!has_root(parts), Find::Root)
 }
 
-fn note_unread(report: &mut Report, geom: &Geom, parts: &PartsInMemory<&[Sector]>) -> Result<(), NoMemory>
+fn note_unread(
+    report: &mut Report,
+    geom: &Geom,
+    parts: &PartsInMemory<&[Sector]>,
+) -> Result<(), NoMemory>
     requires { IsGeom geom.now }
     ensures { OnOk result (report.new ≡ report.old ++ unread geom.now parts.now) }
 {
@@ -34,7 +38,11 @@ fn note_unread(report: &mut Report, geom: &Geom, parts: &PartsInMemory<&[Sector]
     note_bodies(report, geom, parts)
 }
 
-fn note_all_bitmaps(report: &mut Report, geom: &Geom, parts: &PartsInMemory<&[Sector]>) -> Result<(), NoMemory>
+fn note_all_bitmaps(
+    report: &mut Report,
+    geom: &Geom,
+    parts: &PartsInMemory<&[Sector]>,
+) -> Result<(), NoMemory>
     requires { IsGeom geom.now }
     ensures { OnOk result (report.new ≡ report.old
         ++ row_of_kinds (λ kind. row (clusters_of geom.now kind) (bitmap_form geom.now parts.now kind))) }
@@ -76,7 +84,11 @@ fn note_bitmap(
     report.note_if(is_unread, Find::MetaForm { sector })
 }
 
-fn note_bodies(report: &mut Report, geom: &Geom, parts: &PartsInMemory<&[Sector]>) -> Result<(), NoMemory>
+fn note_bodies(
+    report: &mut Report,
+    geom: &Geom,
+    parts: &PartsInMemory<&[Sector]>,
+) -> Result<(), NoMemory>
     requires { IsGeom geom.now }
     ensures { OnOk result (report.new ≡ report.old ++ row (items_of geom.now Kind.Fd) (body_form geom.now parts.now)) }
 {

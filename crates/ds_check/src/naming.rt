@@ -269,7 +269,11 @@ pub(crate) fn is_used(parts: &PartsInMemory<&[Sector]>, object: ObjNo) -> bool
 }
 
 /// How many names each object has.
-fn count_names(alloc: Global, geom: &Geom, parts: &PartsInMemory<&[Sector]>) -> Result<NameCounts, NoMemory>
+fn count_names(
+    alloc: Global,
+    geom: &Geom,
+    parts: &PartsInMemory<&[Sector]>,
+) -> Result<NameCounts, NoMemory>
     requires { IsGeom geom.now }
     ensures few { IfOk result (λ _. length (all_named geom.now parts.now) ≤ 384 * items_of geom.now Kind.Fd) }
     ensures count { IfOk result (λ counts. length counts ≡ items_of geom.now Kind.Fd) }
@@ -285,7 +289,12 @@ fn count_names(alloc: Global, geom: &Geom, parts: &PartsInMemory<&[Sector]>) -> 
 }
 
 /// Counts the names that stand in the rooms of a directory.
-fn count_rooms(counts: &mut NameCounts, count: u32, parts: &PartsInMemory<&[Sector]>, rooms: &[Option<Entry>])
+fn count_rooms(
+    counts: &mut NameCounts,
+    count: u32,
+    parts: &PartsInMemory<&[Sector]>,
+    rooms: &[Option<Entry>],
+)
     requires { count ≡ length counts.old }
     ensures count { length counts.new ≡ length counts.old }
     ensures counted { (named : List ℕ) → length named + length rooms.now < 2 ^ 64 - 1 → CountsNames counts.old named
@@ -296,7 +305,12 @@ fn count_rooms(counts: &mut NameCounts, count: u32, parts: &PartsInMemory<&[Sect
     }
 }
 
-fn count_room(counts: &mut NameCounts, count: u32, parts: &PartsInMemory<&[Sector]>, room: &Option<Entry>)
+fn count_room(
+    counts: &mut NameCounts,
+    count: u32,
+    parts: &PartsInMemory<&[Sector]>,
+    room: &Option<Entry>,
+)
     requires { count ≡ length counts.old }
     ensures count { length counts.new ≡ length counts.old }
     ensures counted { (named : List ℕ) → length named < 2 ^ 64 - 1 → CountsNames counts.old named

@@ -20,7 +20,11 @@ use ds_tree::{Tree, TreeBuilder};
 use std::alloc::Global;
 
 /// The tree that the parts of an image spell.
-pub(crate) fn tree_of<S: Store>(alloc: Global, geom: &Geom, parts: &PartsInMemory<S>) -> Result<Tree, NoMemory>
+pub(crate) fn tree_of<S: Store>(
+    alloc: Global,
+    geom: &Geom,
+    parts: &PartsInMemory<S>,
+) -> Result<Tree, NoMemory>
     requires geom { IsGeom geom.now }
     requires reads { (look : Look) × Reads geom.now look parts.now }
     requires sound { IsSound parts.now }

@@ -91,7 +91,11 @@ fn pointer_blocks(count: u32) -> usize
 }
 
 /// The addresses in pointer blocks, one block after another.
-pub fn pointed_by<S: Store>(alloc: Global, parts: &PartsInMemory<S>, ptrs: &[u32]) -> Result<Vec<u32>, NoMemory>
+pub fn pointed_by<S: Store>(
+    alloc: Global,
+    parts: &PartsInMemory<S>,
+    ptrs: &[u32],
+) -> Result<Vec<u32>, NoMemory>
     ensures { IfOk result (λ v. v.items ≡ flat_map (λ n. addresses_in (part_at parts.now.ptrs n)) ptrs.now) }
 {
     let mut addresses = Vec::new(alloc);
@@ -137,7 +141,11 @@ pub fn blocks_of<S: Store>(
 }
 
 /// The objects that a directory names; none of anything else.
-fn named_by<S: Store>(alloc: Global, parts: &PartsInMemory<S>, body: &Option<Body>) -> Result<Vec<u32>, NoMemory>
+fn named_by<S: Store>(
+    alloc: Global,
+    parts: &PartsInMemory<S>,
+    body: &Option<Body>,
+) -> Result<Vec<u32>, NoMemory>
     ensures { IfOk result (λ v. v.items ≡ named_by parts.now body.now) }
 {
     let entries = entries_in(alloc, parts, subs_of(body))?;

@@ -144,11 +144,7 @@ fn pending_pairs_show_in_the_image(rt: HostRuntime) -> Result<(), Fail> {
     commit(&mut lun, 0, &[77, 80], 100);
     let image = image_of(alloc, &lun)?;
     for (at, byte) in [(77, 100), (80, 101), (79, 79), (81, 81), (69, 69), (83, 83)] {
-        assert_eq!(rt;
-            image.sector(at),
-            Some(filled(byte)),
-            "sector {at}"
-        );
+        assert_eq!(rt; image.sector(at), Some(filled(byte)), "sector {at}");
     }
     for at in [0, 2, 4, 67, 68, 76, 78, 84, 85, 86, u32::MAX] {
         assert_eq!(rt; image.sector(at), None, "sector {at}");
@@ -158,11 +154,7 @@ fn pending_pairs_show_in_the_image(rt: HostRuntime) -> Result<(), Fail> {
     commit(&mut lun, 1, &[77, 81], 110);
     let image = image_of(alloc, &lun)?;
     for (at, byte) in [(77, 110), (80, 101), (81, 111)] {
-        assert_eq!(rt;
-            image.sector(at),
-            Some(filled(byte)),
-            "sector {at}"
-        );
+        assert_eq!(rt; image.sector(at), Some(filled(byte)), "sector {at}");
     }
     Ok(())
 }

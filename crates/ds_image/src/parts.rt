@@ -125,7 +125,11 @@ fn bodies_of<S: Store>(alloc: Global, image: &Image<S>) -> Result<Vec<Option<Bod
     Ok(bodies)
 }
 
-fn maps_of<S: Store>(alloc: Global, image: &Image<S>, kind: Kind) -> Result<Vec<Option<Bits>>, NoMemory>
+fn maps_of<S: Store>(
+    alloc: Global,
+    image: &Image<S>,
+    kind: Kind,
+) -> Result<Vec<Option<Bits>>, NoMemory>
     ensures { IfOk result (λ v. IsReading (clusters_of image.now.geom kind)
         (SpellsBits image.now.geom (slice_get image.now.sectors) kind) v.items) }
 {

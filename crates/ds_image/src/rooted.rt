@@ -71,7 +71,10 @@ fn has_root<S: Store>(parts: &PartsInMemory<S>) -> bool
 }
 
 /// For each object the directory that names it.
-fn parents_of<S: Store>(alloc: Global, parts: &PartsInMemory<S>) -> Result<Vec<Option<u32>>, NoMemory>
+fn parents_of<S: Store>(
+    alloc: Global,
+    parts: &PartsInMemory<S>,
+) -> Result<Vec<Option<u32>>, NoMemory>
     requires read { AreRead parts.now }
     requires named { Owns (lists_by parts.now listed.Names) (named_bits parts.now) }
     ensures count { IfOk result (λ v. length v.items ≡ length parts.now.bodies) }

@@ -14,7 +14,10 @@ use std::alloc::Global;
 use std::collections::BTreeSet;
 
 /// Whether each descriptor says what agrees with the other parts.
-pub(crate) fn are_sound_objects<S: Store>(alloc: Global, parts: &PartsInMemory<S>) -> Result<bool, NoMemory>
+pub(crate) fn are_sound_objects<S: Store>(
+    alloc: Global,
+    parts: &PartsInMemory<S>,
+) -> Result<bool, NoMemory>
     ensures { IfOk result (λ yes. IsTrue yes ↔ ((o : ℕ) → IsSoundObject parts.now (part_at parts.now.bodies o))) }
 {
     let bodies = parts.bodies();
