@@ -42,7 +42,7 @@ fn end_of(rt: &impl Abort, alloc: Global, image: &Image, blocks: u32) -> Result<
     assert!(rt; SHAPE.check().is_ok());
     let plan = Space::new(&SHAPE, 0, &resize(blocks));
     let mut seen = Seen::new(alloc)?;
-    for _ in 0..60 {
+    'steps: for _ in 0..60 {
         match plan.ask(&seen) {
             Ask::Lock(object) => {
                 assert!(rt; !seen.has_lock(object));
