@@ -138,7 +138,7 @@ fn is_taking(call: &Call) -> bool
 }
 
 /// How a call ends where each lock is given and each sector is read from the image.
-fn end_of(rt: &impl Abort, alloc: Global, image: &Image, call: &Call) -> Result<Ask, Fail> {
+fn end_of(rt: &impl Abort, alloc: Global, image: &Image<MemLun>, call: &Call) -> Result<Ask, Fail> {
     assert!(rt; SHAPE.check().is_ok());
     assert!(rt; is_taking(call));
     let plan = Remove::new(&SHAPE, 0, call);
@@ -153,7 +153,8 @@ fn end_of(rt: &impl Abort, alloc: Global, image: &Image, call: &Call) -> Result<
             }
             Ask::Read(at) => {
                 assert!(rt; seen.sector(at).is_none());
-                seen.put(at, image.sector(at).ok_or("no sector of metadata")?);
+                let sector = image.sector(at).ok_or("no sector of metadata")?;
+                seen.put(at, &sector);
                 asked.push(at)?;
             }
             end => {
@@ -165,14 +166,19 @@ fn end_of(rt: &impl Abort, alloc: Global, image: &Image, call: &Call) -> Result<
     Err("it doesn't end".into())
 }
 
-fn image_of(rt: &impl Abort, alloc: Global, lun: &MemLun) -> Result<Image, Fail> {
+fn image_of<'a>(
+    rt: &impl Abort,
+    alloc: Global,
+    lun: &'a MemLun,
+) -> Result<Image<'a, MemLun>, Fail> {
     assert!(rt; SHAPE.check().is_ok());
     assert!(rt; lun.len() == total(&SHAPE));
     Ok(overlay(alloc, &SHAPE, lun)?)
 }
 
-fn tree_of(alloc: Global, image: &Image) -> Result<Tree, Fail> {
-    Ok(read_tree(alloc, image)?.ok_or("it stands for none")?)
+fn tree_of(rt: &impl Abort, alloc: Global, lun: &MemLun) -> Result<Tree, Fail> {
+    let image = image_of(rt, alloc, lun)?;
+    Ok(read_tree(alloc, &image)?.ok_or("it stands for none")?)
 }
 
 /// Lays pairs over the volume, and tells their numbers.
@@ -211,19 +217,20 @@ fn done(
     lun: &mut MemLun,
     call: &Call,
 ) -> Result<(TreeReply, Vec<SectorNo>), Fail> {
-    let image = image_of(rt, alloc, lun)?;
-    let mut tree = tree_of(alloc, &image)?;
+    let mut tree = tree_of(rt, alloc, lun)?;
     assert!(rt; is_taking(call));
     assert!(rt; !tree.worn());
     let expected = tree.call(call)?;
-    let (reply, targets) = match end_of(rt, alloc, &image, call)? {
+    let image = image_of(rt, alloc, lun)?;
+    let end = end_of(rt, alloc, &image, call)?;
+    drop(image);
+    let (reply, targets) = match end {
         Ask::Done(reply) => (reply, Vec::new(alloc)),
         Ask::Change(redo, reply) => (reply, lay(rt, alloc, lun, &redo)?),
         _ => return Err("it isn't done".into()),
     };
     assert_eq!(rt; reply, expected);
-    let image = image_of(rt, alloc, lun)?;
-    assert_same(rt, &tree_of(alloc, &image)?, &tree);
+    assert_same(rt, &tree_of(rt, alloc, lun)?, &tree);
     Ok((reply, targets))
 }
 
