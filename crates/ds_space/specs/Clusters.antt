@@ -146,6 +146,6 @@ small-items g kind cluster map_before items is bits can i n at =
 pub more-is : (g : Geom) (kind : Kind) (cluster : ℕ) (map_before : Bitmap) (items : List ℕ) (taken made : Taken) → (length items == 0) ≡ false
     → made.numbers.items ≡ taken.numbers.items ++ map (λ item. cluster * per_cluster g kind + item) items
     → made.maps.items ≡ taken.maps.items ++ map_pair g kind cluster (map_marked map_before items) ∷ [] → made ≡ taken_more g kind cluster map_before items taken
-more-is g kind cluster map_before [] taken made some numbers maps = absurd (false≢true (sym some))
-more-is g kind cluster map_before (x ∷ items) taken made some numbers maps =
-    (λ i. record { numbers = record { items = numbers i }; maps = record { items = maps i } })
+more-is g kind cluster map_before [] taken made some are_numbers are_maps = absurd (false≢true (sym some))
+more-is g kind cluster map_before (x ∷ items) taken made some are_numbers are_maps =
+    (λ i. record { numbers = record { items = are_numbers i }; maps = record { items = are_maps i } })
