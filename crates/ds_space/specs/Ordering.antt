@@ -2,7 +2,6 @@
 use Rattle.std.proofs.Common.{◌≡◌, ℕ, suc, ◌+◌, ◌<◌, ◌≤◌, ◌==◌, Bool, true, false, nat_lt, if◌then◌else◌, List, [], ◌∷◌, ◌++◌, length, Option, Some, None, refl, sym, ap, ◌∙◌, slice_get, arith}
 use Rattle.std.specs.Prelude.{insert, remove}
 use Rattle.std.proofs.lemmas.Bool.{false≢true}
-use Rattle.std.proofs.lemmas.Option.{slice_get_within}
 use Rattle.ds_image.specs.Pending.{Pair}
 use Rattle.ds_space.specs.Ordered.{put_in, put_all_in, place_from, is_for}
 
@@ -54,13 +53,6 @@ place-within at (o ∷ pairs) = by (nat_lt o.0 at) (place-within at pairs)
     by : (b : Bool) → place_from 0 at pairs ≤ length pairs → (if b then place_from 1 at pairs else 0) ≤ length (o ∷ pairs)
     by true few = omega (arith, few, place-shift 0 at pairs)
     by false few = omega arith
-
-pub there-within : (at place : ℕ) (pairs : List Pair) → is_for at (slice_get pairs place) ≡ true → place < length pairs
-there-within at place pairs there = by (slice_get pairs place) refl there
-  where
-    by : (r : Option Pair) → slice_get pairs place ≡ r → is_for at r ≡ true → place < length pairs
-    by None is there = absurd (false≢true there)
-    by (Some q) is there = slice_get_within pairs place q is
 
 -- with one pair more there are at most one more
 pub length-put_in : (pair : Pair) (pairs : List Pair) → length (put_in pair pairs) ≤ length pairs + 1
