@@ -5,7 +5,5 @@
 mod redos;
 mod renaming;
 mod rooms;
-#[cfg(test)]
-mod tests;
 
 pub use renaming::Rename;
