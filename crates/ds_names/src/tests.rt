@@ -1,7 +1,7 @@
 //! Lookups and lists on a volume whose root has 36 files in twelve sub-blocks, each with a free room: what is asked for in which
 //! order, and replies as the tree of the volume gives them.
 ghost use Rattle.std.specs.Prelude.{IsTrue};
-ghost use Rattle.ds_names.specs.Answers.{IsBuilt};
+ghost use Rattle.ds_names.specs.Calls.{IsBuilt};
 ghost use Rattle.ds_tree.specs.CallNames.{HasNames};
 
 use super::*;
@@ -157,6 +157,8 @@ fn has_names(call: &Call) -> bool
 {
     match call {
         CallOf::Lookup { name, .. } => Name::read(name).is_some(),
+        CallOf::Mkdir { name, .. } => Name::read(name).is_some(),
+        CallOf::Create { name, .. } => Name::read(name).is_some(),
         CallOf::List {
             after: Some(name),
             ..
@@ -172,6 +174,8 @@ fn is_built(call: &Call) -> bool
     match call {
         CallOf::Lookup { .. } => true,
         CallOf::List { .. } => true,
+        CallOf::Mkdir { .. } => true,
+        CallOf::Create { .. } => true,
         _ => false,
     }
 }
@@ -336,5 +340,15 @@ fn a_sector_that_fits_no_tree_is_odd(rt: HostRuntime) -> Result<(), Fail> {
             "{wrong:?}"
         );
     }
+    Ok(())
+}
+
+#[test]
+fn a_name_that_exists_is_not_made(rt: HostRuntime) -> Result<(), Fail> {
+    let image = image_of(rt.alloc(), Wrong::Nothing)?;
+    let name = Word::new(b"n35").expect(&rt, "a word");
+    let call = CallOf::Create { dir: ROOT, name };
+    let reply = reply_of(&rt, rt.alloc(), &image, &call)?;
+    assert_eq!(rt; reply, TreeReply::Exists);
     Ok(())
 }
