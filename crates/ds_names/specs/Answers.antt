@@ -1,4 +1,4 @@
--- What the planner of a call on names asks for and answers, by what was seen and by the parts that it spells.
+-- What the planner of a call that reads names asks for and answers, by what was seen and by the parts that it spells.
 use Rattle.std.specs.Prelude.{ℕ, List, Option, Some, None, Result, Ok, ⊤}
 use Rattle.ds_base.specs.declared.geometry.Geom.{Geom}
 use Rattle.ds_base.specs.declared.names.Key.{Key}
@@ -8,8 +8,8 @@ use Rattle.ds_image.specs.Parts.{Parts}
 use Rattle.ds_image.specs.Planning.{Answers}
 use Rattle.ds_image.specs.SeenValues.{SeenValue}
 use Rattle.ds_image.specs.declared.asks.Ask.{Ask}
-use Rattle.ds_names.specs.declared.names.NameCall.{NameCall}
-use Rattle.ds_names.specs.declared.names.NameCall.TheVariants as kept
+use Rattle.ds_names.specs.declared.reading.ReadCall.{ReadCall}
+use Rattle.ds_names.specs.declared.reading.ReadCall.TheVariants as kept
 use Rattle.ds_names.specs.Pages.{page_of}
 use Rattle.ds_plans.specs.Bodies.{dir_of_key}
 use Rattle.ds_plans.specs.Entries.{found_in, subs_known}
@@ -20,19 +20,19 @@ use Rattle.ds_tree.specs.declared.calls.CallOf.TheVariants as calls
 use Rattle.ds_tree.specs.declared.calls.TreeReply.{TreeReply}
 use Rattle.ds_tree.specs.declared.calls.TreeReply.TheVariants as replies
 
--- the calls whose planner there is
-abbrev pub IsBuilt : CallOf Key → Type 0
-IsBuilt (calls.Lookup dir name) = ⊤
-IsBuilt (calls.List dir after) = ⊤
-IsBuilt _ = ⊥
+-- the calls that read the names of a directory
+abbrev pub IsRead : CallOf Key → Type 0
+IsRead (calls.Lookup dir name) = ⊤
+IsRead (calls.List dir after) = ⊤
+IsRead _ = ⊥
 
 -- a planner: the shape of its volume, its host's slot, and its call
-pub record NamesValue : Type 0 where
+pub record ReadsValue : Type 0 where
   pub geom : Geom
   pub slot : ℕ
-  pub call : NameCall
+  pub call : ReadCall
 
-abbrev pub call_of : NameCall → CallOf Key
+abbrev pub call_of : ReadCall → CallOf Key
 call_of (kept.Lookup dir name) = calls.Lookup dir name
 call_of (kept.List dir after) = calls.List dir after
 
@@ -55,10 +55,10 @@ abbrev pub list_known : Geom → SeenValue → Parts → Key → Option (List �
 list_known g seen p dir above = after (dir_of_key g seen p dir) (λ b. page_known g seen p above b (subs_of (Some b)))
 
 -- so does each call
-abbrev pub known_by : Geom → SeenValue → Parts → NameCall → Result TreeReply Ask
+abbrev pub known_by : Geom → SeenValue → Parts → ReadCall → Result TreeReply Ask
 known_by g seen p (kept.Lookup dir name) = lookup_known g seen p dir name
 known_by g seen p (kept.List dir above) = list_known g seen p dir above
 
 -- what the planner asks for
-abbrev pub answers_of : NamesValue → Answers
+abbrev pub answers_of : ReadsValue → Answers
 answers_of plan seen p = settled (known_by plan.geom seen p plan.call)

@@ -1,139 +1,47 @@
 //! The planner of calls on names.
-ghost use Rattle.std.specs.Prelude.{◌≡◌, IfSome};
+ghost use Rattle.std.specs.Prelude.{◌≡◌};
 ghost use Rattle.ds_base.specs.Geometry.{IsGeom};
-ghost use Rattle.ds_base.specs.Names.{IsName};
-ghost use Rattle.ds_image.specs.Parts.{Parts};
-ghost use Rattle.ds_image.specs.Readings.{Reads};
-ghost use Rattle.ds_image.specs.SeenValues.{look_of};
-ghost use Rattle.ds_names.specs.Answers.{IsBuilt, answers_of, call_of, known_by, lookup_known};
+ghost use Rattle.ds_names.specs.Calls.{IsOnNames, call_of, geom_of, slot_of};
 ghost use Rattle.ds_tree.specs.CallNames.{HasNames};
 
-use crate::listing::list;
-use ds_base::{Geom, Key, Name, SlotNo, Word};
+use crate::reading::DirReads;
+use ds_base::{Geom, SlotNo};
 use ds_image::{Ask, Plan, Seen};
-use ds_plans::{dir_of_key, find};
-use ds_tree::{Call, CallOf, TreeReply};
-use std::marker::Model;
+use ds_make::Make;
+use ds_remove::Remove;
+use ds_rename::Rename;
+use ds_tree::{Call, CallOf};
 
-/// A call on the names of a directory.
+/// What a host does for a call on names: which lock it takes next, which sector it reads next, and what it answers or writes then.
 #[derive(Debug, Drop)]
-pub enum NameCall {
-    Lookup { dir: Key, name: Name },
-    List { dir: Key, after: Option<Name> },
-}
-
-/// What a host does for a call on names: which lock it takes next, which sector it reads next, and what it answers then.
-#[derive(Debug, Drop)]
-pub struct Names {
-    geom: Geom,
-    slot: SlotNo,
-    call: NameCall,
-}
-
-impl Model for Names {
-    ghost use Rattle.ds_base.specs.Geometry.{IsGeom};
-    ghost use Rattle.ds_names.specs.Answers.{NamesValue};
-
-    ghost Value = { NamesValue };
-
-    ghost view = { λ names. record { geom = names.geom; slot = names.slot; call = names.call } };
-
-    ghost invariant = { λ names. IsGeom names.geom };
-}
-
-impl NameCall {
-    fn of(call: &Call) -> NameCall
-        requires built { IsBuilt call.now }
-        requires names { HasNames call.now }
-        ensures { call_of result ≡ call.now }
-    {
-        match call {
-            CallOf::Lookup { dir, name } => NameCall::Lookup {
-                dir: *dir,
-                name: name_of(name),
-            },
-            CallOf::List { dir, after } => NameCall::List {
-                dir: *dir,
-                after: name_of_optional(after),
-            },
-            _ => unreachable!(),
-        }
-    }
+pub enum Names {
+    Reads(DirReads),
+    Makes(Make),
+    Removes(Remove),
+    Renames(Rename),
 }
 
 impl Names {
-    /// The planner of a Lookup or a List, for a host with this slot; each word of the call is a name.
+    /// The planner of a Mkdir, a Create, a Lookup, a List, a Remove, a Rmdir or a Rename, for a host with this slot; each word of the
+    /// call is a name.
     pub fn new(geom: &Geom, slot: SlotNo, call: &Call) -> Names
         requires geom { IsGeom geom.now }
-        requires built { IsBuilt call.now }
+        requires on_names { IsOnNames call.now }
         requires names { HasNames call.now }
-        ensures geom { result.geom ≡ geom.now }
-        ensures slot { result.slot ≡ slot }
-        ensures call { call_of result.call ≡ call.now }
+        ensures geom { geom_of result ≡ geom.now }
+        ensures slot { slot_of result ≡ slot }
+        ensures call { call_of result ≡ call.now }
     {
-        Names {
-            geom: *geom,
-            slot,
-            call: NameCall::of(call),
+        match call {
+            CallOf::Lookup { .. } => Names::Reads(DirReads::new(geom, slot, call)),
+            CallOf::List { .. } => Names::Reads(DirReads::new(geom, slot, call)),
+            CallOf::Mkdir { .. } => Names::Makes(Make::new(geom, slot, call)),
+            CallOf::Create { .. } => Names::Makes(Make::new(geom, slot, call)),
+            CallOf::Remove { .. } => Names::Removes(Remove::new(geom, slot, call)),
+            CallOf::Rmdir { .. } => Names::Removes(Remove::new(geom, slot, call)),
+            CallOf::Rename { .. } => Names::Renames(Rename::new(geom, slot, call)),
+            _ => unreachable!(),
         }
-    }
-
-    /// What is asked for, or answered.
-    fn asked(&self, seen: &Seen) -> Ask
-        ensures { (p : Parts) → Reads self.now.geom (look_of seen.now) p → result ≡ answers_of self.now seen.now p }
-    {
-        match self.known(seen) {
-            Ok(reply) => Ask::Done(reply),
-            Err(ask) => ask,
-        }
-    }
-
-    /// The reply, or what is asked for before it is known.
-    fn known(&self, seen: &Seen) -> Result<TreeReply, Ask>
-        ensures { (p : Parts) → Reads self.now.geom (look_of seen.now) p
-            → result ≡ known_by self.now.geom seen.now p self.now.call }
-    {
-        match &self.call {
-            NameCall::Lookup { dir, name } => lookup(&self.geom, seen, dir, name),
-            NameCall::List { dir, after } => list(&self.geom, seen, dir, after),
-        }
-    }
-}
-
-/// The name that a word is.
-fn name_of(word: &Word) -> Name
-    requires { IsName word.now }
-    ensures { result ≡ word.now }
-{
-    let Some(name) = Name::read(word) else {
-        unreachable!()
-    };
-    name
-}
-
-fn name_of_optional(word: &Option<Word>) -> Option<Name>
-    requires { IfSome word.now IsName }
-    ensures { result ≡ word.now }
-{
-    match word {
-        Some(word) => Some(name_of(word)),
-        None => None,
-    }
-}
-
-/// What Lookup answers.
-fn lookup(geom: &Geom, seen: &Seen, dir: &Key, name: &Name) -> Result<TreeReply, Ask>
-    requires { IsGeom geom.now }
-    ensures { (p : Parts) → Reads geom.now (look_of seen.now) p
-        → result ≡ lookup_known geom.now seen.now p dir.now name.now }
-{
-    let body = dir_of_key(geom, seen, dir)?;
-    match find(geom, seen, &body, name)? {
-        Some(found) => Ok(TreeReply::Found {
-            key: found.key,
-            kind: found.kind,
-        }),
-        None => Ok(TreeReply::NotFound),
     }
 }
 
@@ -142,23 +50,27 @@ impl Plan for Names {
     ghost use Rattle.ds_image.specs.Parts.{Parts};
     ghost use Rattle.ds_image.specs.Readings.{Reads};
     ghost use Rattle.ds_image.specs.SeenValues.{look_of};
-    ghost use Rattle.ds_names.specs.Answers.{answers_of, call_of};
-    ghost use Rattle.ds_names.specs.Laws.{names_keep, names_few};
+    ghost use Rattle.ds_names.specs.Calls.{answers_of, call_of, geom_of, slot_of};
+    ghost use Rattle.ds_names.specs.NamesLaws.{names_keep, names_few};
     ghost use Rattle.ds_plans.specs.Locks.{IsAllowed};
 
-    ghost geom = { λ plan. plan.geom };
+    ghost geom = { geom_of };
 
-    ghost call = { λ plan. call_of plan.call };
+    ghost call = { call_of };
 
     ghost answers = { answers_of };
 
-    #[tactic(auto, using(crate::specs::Laws::allowed_as))]
     fn ask(&self, seen: &Seen) -> Ask
-        ensures answer { (p : Parts) → Reads self.now.geom (look_of seen.now) p → result ≡ answers_of self.now seen.now p }
-        ensures locks { (p : Parts) → Reads self.now.geom (look_of seen.now) p
-            → IsAllowed self.now.geom self.now.slot (call_of self.now.call) p result }
+        ensures answer { (p : Parts) → Reads (geom_of self.now) (look_of seen.now) p → result ≡ answers_of self.now seen.now p }
+        ensures locks { (p : Parts) → Reads (geom_of self.now) (look_of seen.now) p
+            → IsAllowed (geom_of self.now) (slot_of self.now) (call_of self.now) p result }
     {
-        self.asked(seen)
+        match self {
+            Names::Reads(plan) => plan.ask(seen),
+            Names::Makes(plan) => plan.ask(seen),
+            Names::Removes(plan) => plan.ask(seen),
+            Names::Renames(plan) => plan.ask(seen),
+        }
     }
 
     ghost keeps = { names_keep };

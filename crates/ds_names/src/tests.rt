@@ -1,7 +1,7 @@
 //! Lookups and lists on a volume whose root has 36 files in twelve sub-blocks, each with a free room: what is asked for in which
 //! order, and replies as the tree of the volume gives them.
 ghost use Rattle.std.specs.Prelude.{IsTrue};
-ghost use Rattle.ds_names.specs.Answers.{IsBuilt};
+ghost use Rattle.ds_names.specs.Answers.{IsRead};
 ghost use Rattle.ds_tree.specs.CallNames.{HasNames};
 
 use super::*;
@@ -160,7 +160,7 @@ fn list(rt: &impl Abort, dir: Key, after: Option<&[u8]>) -> Call {
 
 /// Whether each word of a call is a name.
 fn has_names(call: &Call) -> bool
-    ensures { IsTrue result → IsBuilt call.now → HasNames call.now }
+    ensures { IsTrue result → IsRead call.now → HasNames call.now }
 {
     match call {
         CallOf::Lookup { name, .. } => Name::read(name).is_some(),
@@ -172,9 +172,9 @@ fn has_names(call: &Call) -> bool
     }
 }
 
-/// Whether the call has a planner.
-fn is_built(call: &Call) -> bool
-    ensures { IsTrue result → IsBuilt call.now }
+/// Whether a call reads the names of a directory.
+fn reads_names(call: &Call) -> bool
+    ensures { IsTrue result → IsRead call.now }
 {
     match call {
         CallOf::Lookup { .. } => true,
@@ -191,9 +191,9 @@ fn asked_of(
     call: &Call,
 ) -> Result<(Vec<Asked>, Ask), Fail> {
     assert!(rt; SHAPE.check().is_ok());
-    assert!(rt; is_built(call));
+    assert!(rt; reads_names(call));
     assert!(rt; has_names(call));
-    let plan = Names::new(&SHAPE, 0, call);
+    let plan = DirReads::new(&SHAPE, 0, call);
     let mut seen = Seen::new(alloc)?;
     let mut asked = Vec::new(alloc);
     for step in 0..60 {
@@ -237,7 +237,7 @@ fn reply_of(
     call: &Call,
 ) -> Result<TreeReply, Fail> {
     let mut tree = read_tree(alloc, image)?.ok_or("it stands for none")?;
-    assert!(rt; is_built(call));
+    assert!(rt; reads_names(call));
     assert!(rt; has_names(call));
     assert!(rt; !tree.worn());
     let reply = tree.call(call)?;
