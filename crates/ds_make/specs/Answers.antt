@@ -10,19 +10,22 @@ use Rattle.ds_image.specs.Parts.{Parts}
 use Rattle.ds_image.specs.Planning.{Answers}
 use Rattle.ds_image.specs.SeenValues.{SeenValue, has_lock}
 use Rattle.ds_image.specs.declared.asks.Ask.{Ask}
-use Rattle.ds_image.specs.declared.asks.Ask.TheVariants.{Lock, Odd, Worn, Change}
+use Rattle.ds_image.specs.declared.asks.Ask.TheVariants.{Change}
 use Rattle.ds_layout.specs.Places.{place_sector}
 use Rattle.ds_layout.specs.declared.places.Place.TheVariants as places
 use Rattle.ds_plans.specs.Items.{number_of, wanted_item}
 use Rattle.ds_make.specs.Redos.{new_object, pairs_filled, pairs_grown}
 use Rattle.ds_plans.specs.Redos.{redo_of}
-use Rattle.ds_plans.specs.Rooms.{entries_before, room_in}
+use Rattle.ds_plans.specs.Rooms.{room_for}
+use Rattle.ds_plans.specs.Stops.{ask_of}
 use Rattle.ds_plans.specs.declared.items.FreeItem.{FreeItem}
 use Rattle.ds_make.specs.declared.objects.NewObject.{NewObject}
 use Rattle.ds_make.specs.declared.making.Making.{Making}
 use Rattle.ds_plans.specs.declared.rooms.FreeRoom.{FreeRoom}
 use Rattle.ds_plans.specs.Bodies.{body_seen, dir_of_key}
 use Rattle.ds_plans.specs.Steps.{after}
+use Rattle.ds_plans.specs.declared.stops.Stop.{Stop}
+use Rattle.ds_plans.specs.declared.stops.Stop.TheVariants.{Lock, Odd, Worn}
 use Rattle.ds_tree.specs.declared.calls.CallOf.{CallOf}
 use Rattle.ds_tree.specs.declared.calls.TreeReply.TheVariants.{Made}
 
@@ -38,12 +41,12 @@ abbrev pub call_of : MakeValue → CallOf Key
 call_of plan = make_call plan.kind plan.dir plan.name
 
 -- a body that can begin a new life: one in use is odd, and one of the greatest birth is worn
-abbrev pub unused_by : ℕ → ℕ → Body → Result Body Ask
+abbrev pub unused_by : ℕ → ℕ → Body → Result Body Stop
 unused_by at object b =
     if is_some b.kind then Err (Odd at) else if nat_le (2 ^ 62) b.birth then Err (Worn object) else Ok b
 
 -- the body of a descriptor whose bit is clear, which is locked and read before
-abbrev pub unused_body : Geom → SeenValue → Parts → ℕ → Result Body Ask
+abbrev pub unused_body : Geom → SeenValue → Parts → ℕ → Result Body Stop
 unused_body g seen p object =
     if has_lock seen object
     then after (body_seen g seen p object) (unused_by (place_sector g (places.Body object)) object)
@@ -56,26 +59,25 @@ change_filled g new free = record { redo = redo_of (pairs_filled g new free); ke
 abbrev pub change_grown : Geom → Body → NewObject → FreeItem → Making
 change_grown g dir new sub = record { redo = redo_of (pairs_grown g dir new sub); key = new.entry.key }
 
-abbrev pub change_by : Geom → ℕ → SeenValue → Parts → Body → NewObject → Option FreeRoom → Result Making Ask
+abbrev pub change_by : Geom → ℕ → SeenValue → Parts → Body → NewObject → Option FreeRoom → Result Making Stop
 change_by g slot seen p dir new (Some free) = Ok (change_filled g new free)
 change_by g slot seen p dir new None = after (wanted_item g slot seen p Sb) (λ sub. Ok (change_grown g dir new sub))
 
 -- a new object is known once its directory, a free descriptor and its body are
-abbrev pub object_known : Geom → ℕ → SeenValue → Parts → NodeKind → List ℕ → Result NewObject Ask
+abbrev pub object_known : Geom → ℕ → SeenValue → Parts → NodeKind → List ℕ → Result NewObject Stop
 object_known g slot seen p kind name =
     after (wanted_item g slot seen p Fd) (λ item. after (unused_body g seen p (number_of g Fd item)) (λ before. Ok (new_object item before kind name)))
 
--- the change is known once the directory is, and the object, and a room for it
-abbrev pub change_known : Geom → ℕ → SeenValue → Parts → Key → List ℕ → NodeKind → Result Making Ask
+-- the change is known once the directory is, and a room for the object, and the object
+abbrev pub change_known : Geom → ℕ → SeenValue → Parts → Key → List ℕ → NodeKind → Result Making Stop
 change_known g slot seen p key name kind =
     after (dir_of_key g seen p key) (λ dir.
-    after (entries_before g seen p dir name) (λ count.
-    after (object_known g slot seen p kind name) (λ new.
-    after (room_in g seen p dir) (λ free. change_by g slot seen p dir new free))))
+    after (room_for g seen p dir name) (λ free.
+    after (object_known g slot seen p kind name) (λ new. change_by g slot seen p dir new free)))
 
-abbrev pub changed : Result Making Ask → Ask
+abbrev pub changed : Result Making Stop → Ask
 changed (Ok making) = Change making.redo (Made making.key)
-changed (Err ask) = ask
+changed (Err stop) = ask_of stop
 
 -- what the planner asks for
 abbrev pub answers_of : MakeValue → Answers

@@ -8,7 +8,6 @@ use Rattle.ds_base.specs.declared.names.NodeKind.{NodeKind}
 use Rattle.ds_fd.specs.declared.body.Body.{Body}
 use Rattle.ds_image.specs.Parts.{Parts}
 use Rattle.ds_image.specs.SeenValues.{SeenValue}
-use Rattle.ds_image.specs.declared.asks.Ask.{Ask}
 use Rattle.ds_jrnl.specs.declared.redo.Redo.{Redo}
 use Rattle.ds_make.specs.Answers.{object_known, change_known}
 use Rattle.ds_make.specs.Redos.{pairs_grown}
@@ -17,12 +16,13 @@ use Rattle.ds_make.specs.declared.objects.NewObject.{NewObject}
 use Rattle.ds_plans.specs.Bodies.{dir_of_key}
 use Rattle.ds_plans.specs.Items.{wanted_item}
 use Rattle.ds_plans.specs.Redos.{redo_of}
-use Rattle.ds_plans.specs.Rooms.{room_in, entries_before}
+use Rattle.ds_plans.specs.Rooms.{room_for}
 use Rattle.ds_plans.specs.declared.items.FreeItem.{FreeItem}
+use Rattle.ds_plans.specs.declared.stops.Stop.{Stop}
 
 -- so the change is known once all this is
-pub grown-is : (g : Geom) (slot : ℕ) (seen : SeenValue) (p : Parts) (key : Key) (name : List ℕ) (kind : NodeKind) (dir : Body) (n : ℕ) (new : NewObject) (sub : FreeItem) (redo : Redo)
-    → dir_of_key g seen p key ≡ Ok dir → entries_before g seen p dir name ≡ Ok n → object_known g slot seen p kind name ≡ Ok new → room_in g seen p dir ≡ Ok None
+pub grown-is : (g : Geom) (slot : ℕ) (seen : SeenValue) (p : Parts) (key : Key) (name : List ℕ) (kind : NodeKind) (dir : Body) (new : NewObject) (sub : FreeItem) (redo : Redo)
+    → dir_of_key g seen p key ≡ Ok dir → room_for g seen p dir name ≡ Ok None → object_known g slot seen p kind name ≡ Ok new
     → wanted_item g slot seen p Sb ≡ Ok sub → redo ≡ redo_of (pairs_grown g dir new sub)
-    → ◌≡◌ {A = Result Making Ask} (Ok (record { redo = redo; key = new.entry.key })) (change_known g slot seen p key name kind)
-grown-is g slot seen p key name kind dir n new sub redo a b c d e f = rw (a, b, c, d, e, f) refl
+    → ◌≡◌ {A = Result Making Stop} (Ok (record { redo = redo; key = new.entry.key })) (change_known g slot seen p key name kind)
+grown-is g slot seen p key name kind dir new sub redo a b c d e = rw (a, b, c, d, e) refl

@@ -41,7 +41,7 @@ use Rattle.ds_plans.specs.PlanAsks.{PlanAsks, IsPlanChange, HasItem, HasWhole}
 use Rattle.ds_make.specs.ObjectWalk.{HasNew, some-there, unused_goes}
 use Rattle.ds_plans.specs.Objects.{CanGrow}
 use Rattle.ds_make.specs.Redos.{new_object}
-use Rattle.ds_plans.specs.Rooms.{room_in, entries_before}
+use Rattle.ds_plans.specs.Rooms.{room_in, room_for}
 use Rattle.ds_make.specs.Wholes.{has-key, make-missing, make-no_dir, make-refused}
 use Rattle.ds_plans.specs.declared.items.FreeItem.{FreeItem}
 use Rattle.ds_make.specs.declared.making.Making.{Making}
@@ -57,7 +57,8 @@ use Rattle.ds_plans.proofs.Going.{goes-after}
 use Rattle.ds_plans.proofs.Known.{rooms-full, room-place}
 use Rattle.ds_plans.proofs.Limits.{map_alike}
 use Rattle.ds_plans.proofs.PlanLaws.{plan_allowed, plan_few, plan_keeps}
-use Rattle.ds_plans.proofs.Wholes.{dir-node, entries-count, entries-absent, counts-known, rooms-known, takes, whole_goes, dir_known-goes}
+use Rattle.ds_plans.proofs.Wholes.{dir-node, entries-count, entries-absent, counts-known, takes, room_goes, dir_known-goes}
+use Rattle.ds_plans.specs.declared.stops.Stop.{Stop}
 use Rattle.ds_tree.specs.CallNames.{HasNames}
 use Rattle.ds_tree.specs.Counts.{free_of}
 use Rattle.ds_tree.specs.Nodes.{FileTree}
@@ -176,7 +177,7 @@ module _ (g : Geom) (is_geom : IsGeom g) (slot : ℕ) (key : Key) (name : List �
         filled : length (used_rooms p subs) ≡ 4 * dir.count
         filled =
             let count = length (used_rooms p subs) in
-            let counted = rooms-full g seen p reads dir subs 0 (0 + count) none (counts-known g seen p reads dir name 0 0 subs found) in
+            let counted = rooms-full g seen p reads dir subs 0 (0 + count) none (counts-known g seen p reads dir name 0 subs found) in
             let body = body_is g (look_of seen) p key.object dir reads whole.has.sees.there in
             let are : subs_of (Some dir) ≡ subs_by dir (Some kinds.Dir) = ap (subs_by dir) whole.has.sees.is_kind in
             let most : dir.count ≤ 96 = subst (λ k. dir.count ≤ most_count k) whole.has.sees.is_kind body.ranges.count_to in
@@ -213,29 +214,27 @@ module _ (g : Geom) (is_geom : IsGeom g) (slot : ℕ) (key : Key) (name : List �
       change_goes None is = grown_goes is
       change_goes (Some free) is = filled-good g is_geom slot key name named kind seen p reads dir whole item has before new free (room-place g seen p reads dir subs free is)
 
-    rest_goes : Goes Good (after (object_known g slot seen p kind name) (λ new. after (room_in g seen p dir) (λ free. change_by g slot seen p dir new free))) Done_well
-    rest_goes =
-        let room = rooms-known g seen p reads dir name 0 subs found in
+    rest_goes : (free : Option FreeRoom) → room_in g seen p dir ≡ Ok free
+        → Goes Good (after (object_known g slot seen p kind name) (λ new. change_by g slot seen p dir new free)) Done_well
+    rest_goes free room =
         goes-after Good Known Done_well (object_known g slot seen p kind name) _ object_goes
         (λ new is.
-        subst (λ new. Goes Good (after (room_in g seen p dir) (λ free. change_by g slot seen p dir new free)) Done_well) (sym is.2.2)
-        (subst (λ r. Goes Good (after r (λ free. change_by g slot seen p dir (new_object is.0 is.2.0 kind name) free)) Done_well) (sym room.1)
-        (change_goes is.0 is.1 is.2.0 is.2.1 room.0 room.1)))
+        subst (λ new. Goes Good (change_by g slot seen p dir new free) Done_well) (sym is.2.2) (change_goes is.0 is.1 is.2.0 is.2.1 free room))
 
   known_goes : Goes Good (change_known g slot seen p key name kind) Done_well
   known_goes =
       goes-after Good (HasDir g seen p key) Done_well (dir_of_key g seen p key) _
       (dir_known-goes g slot call (MayHold g slot key.object) (MayRead g slot key.object) key seen p reads (has-key kind key name) the_dir of_dir (make-missing g kind key name) (make-no_dir g kind key name))
       (λ dir has.
-      goes-after Good (λ count. HasWhole g seen p key name dir × (found_in g seen p dir name ≡ Ok None)) Done_well (entries_before g seen p dir name) _
-      (whole_goes g slot call (MayHold g slot key.object) (MayRead g slot key.object) key name seen p reads dir has (has-key kind key name) the_dir of_dir
+      goes-after Good (λ free. HasWhole g seen p key name dir × (found_in g seen p dir name ≡ Ok None) × (room_in g seen p dir ≡ Ok free)) Done_well (room_for g seen p dir name) _
+      (room_goes g slot call (MayHold g slot key.object) (MayRead g slot key.object) key name seen p reads dir has (has-key kind key name) the_dir of_dir
       (λ image t stands agrees entries rooms node present. make-refused g kind key name t entries rooms replies.Exists node (rw present refl))
       (λ image t stands agrees entries rooms node absent many. make-refused g kind key name t entries rooms replies.DirFull node (rw (absent, many) refl)))
-      (λ count is. rest_goes dir is.0 is.1))
+      (λ free is. rest_goes dir is.0 is.1 free is.2))
 
-  settled-good : (r : Result Making Ask) → Goes Good r Done_well → Good (changed r)
+  settled-good : (r : Result Making Stop) → Goes Good r Done_well → Good (changed r)
   settled-good (Ok making) is = is
-  settled-good (Err ask) good = good
+  settled-good (Err stop) good = good
 
   -- all that is asked for is good
   pub make_asks : Good (changed (change_known g slot seen p key name kind))

@@ -11,7 +11,6 @@ use Rattle.ds_image.specs.Objects.{subs_of}
 use Rattle.ds_image.specs.Parts.{Parts, part_at}
 use Rattle.ds_image.specs.Readings.{Reads}
 use Rattle.ds_image.specs.SeenValues.{SeenValue, look_of}
-use Rattle.ds_image.specs.declared.asks.Ask.{Ask}
 use Rattle.ds_layout.specs.Places.{clusters_at, place_sector}
 use Rattle.ds_layout.specs.declared.places.Place.TheVariants as places
 use Rattle.ds_plans.specs.DirAsks.{dir_sectors}
@@ -19,6 +18,7 @@ use Rattle.ds_plans.specs.Items.{free_item, number_of}
 use Rattle.ds_plans.specs.declared.items.FreeItem.{FreeItem}
 use Rattle.ds_plans.proofs.Growing.{Grows}
 use Rattle.ds_plans.proofs.Limits.{free-stays, dir-stays, firsts, length-firsts, or-left, in-front, behind, in-mapped, in-firsts, few_subs}
+use Rattle.ds_plans.specs.declared.stops.Stop.{Stop}
 
 -- the directory, the clusters of descriptors and sub-blocks, and the descriptor that was found
 pub data MayHold (g : Geom) (slot dir : ℕ) (seen : SeenValue) (p : Parts) : ℕ → Type 0 where
@@ -48,15 +48,15 @@ module _ (g : Geom) (slot : ℕ) (seen next : SeenValue) (p q : Parts) (is_geom 
 -- The lists
 
 -- what is known of a free item, as a list of at most one number
-abbrev known_new : Geom → Result (Option FreeItem) Ask → List ℕ
+abbrev known_new : Geom → Result (Option FreeItem) Stop → List ℕ
 known_new g (Ok (Some free)) = number_of g Fd free ∷ []
 known_new g (Ok None) = []
-known_new g (Err ask) = []
+known_new g (Err stop) = []
 
-few-new : (g : Geom) (r : Result (Option FreeItem) Ask) → length (known_new g r) ≤ 1
+few-new : (g : Geom) (r : Result (Option FreeItem) Stop) → length (known_new g r) ≤ 1
 few-new g (Ok (Some free)) = omega arith
 few-new g (Ok None) = omega arith
-few-new g (Err ask) = omega arith
+few-new g (Err stop) = omega arith
 
 abbrev pub lock_list : Geom → ℕ → ℕ → SeenValue → Parts → List ℕ
 lock_list g slot dir seen p = (dir ∷ []) ++ (map (λ m. 2048 + m) (firsts 16) ++ known_new g (free_item g slot seen p Fd))
@@ -65,7 +65,7 @@ abbrev pub sector_list : Geom → ℕ → ℕ → SeenValue → Parts → List �
 sector_list g slot dir seen p =
     dir_sectors g p dir ++ (map (λ m. clusters_at g + 2 * m + 1) (firsts 16) ++ map (λ n. place_sector g (places.Body n)) (known_new g (free_item g slot seen p Fd)))
 
-new-listed : (g : Geom) (r : Result (Option FreeItem) Ask) (free : FreeItem) → r ≡ Ok (Some free) → list_any (nat_eq (number_of g Fd free)) (known_new g r) ≡ true
+new-listed : (g : Geom) (r : Result (Option FreeItem) Stop) (free : FreeItem) → r ≡ Ok (Some free) → list_any (nat_eq (number_of g Fd free)) (known_new g r) ≡ true
 new-listed g r free is = ap (λ r. list_any (nat_eq (number_of g Fd free)) (known_new g r)) is ∙ or-left (nat_eq (number_of g Fd free) (number_of g Fd free)) false (nat_eq_equiv.refl (number_of g Fd free))
 
 -- the numbers of the clusters' locks, and of their bitmaps' sectors

@@ -39,6 +39,7 @@ use Rattle.ds_plans.proofs.Dirs.{body_in}
 use Rattle.ds_plans.proofs.Going.{goes-after, goes-if}
 use Rattle.ds_plans.proofs.Limits.{map_alike}
 use Rattle.ds_plans.proofs.NewBodies.{item-within}
+use Rattle.ds_plans.specs.declared.stops.Stop.TheVariants as stops
 use Rattle.ds_tree.specs.Nodes.{FileTree}
 use Rattle.ds_tree.specs.declared.calls.CallOf.{CallOf}
 
@@ -112,15 +113,15 @@ module _ (g : Geom) (slot : ℕ) (call : CallOf Key) (dir : ℕ) (seen : SeenVal
   -- the body is known, or what is asked for is good
   pub unused_goes : Goes Good (unused_body g seen p o) (HasNew g seen p o)
   unused_goes =
-      goes-if Good (HasNew g seen p o) (has_lock seen o) (after (body_seen g seen p o) (unused_by at o)) (Err (asks.Lock o))
+      goes-if Good (HasNew g seen p o) (has_lock seen o) (after (body_seen g seen p o) (unused_by at o)) (Err (stops.Lock o))
       (λ held.
       goes-after Good (HasBody g seen p o) (HasNew g seen p o) (body_seen g seen p o) (unused_by at o)
       (body_goes g slot call (MayHold g slot dir) (MayRead g slot dir) seen p reads o o-within held (of_new item found))
       (λ b is.
-      goes-if Good (HasNew g seen p o) (is_some b.kind) (Err (asks.Odd at)) (if nat_le (2 ^ 62) b.birth then Err (asks.Worn o) else Ok b)
+      goes-if Good (HasNew g seen p o) (is_some b.kind) (Err (stops.Odd at)) (if nat_le (2 ^ 62) b.birth then Err (stops.Worn o) else Ok b)
       (used_good b is)
       (λ unused.
-      goes-if Good (HasNew g seen p o) (nat_le (2 ^ 62) b.birth) (Err (asks.Worn o)) (Ok b)
+      goes-if Good (HasNew g seen p o) (nat_le (2 ^ 62) b.birth) (Err (stops.Worn o)) (Ok b)
       (worn_good b is.there unused)
       (λ few. record {
         held = held;

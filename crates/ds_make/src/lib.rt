@@ -5,5 +5,7 @@
 mod making;
 mod objects;
 mod redos;
+#[cfg(test)]
+mod tests;
 
 pub use making::Make;

@@ -1,5 +1,5 @@
 //! The planner of Mkdir and Create.
-ghost use Rattle.std.specs.Prelude.{◌≡◌, true, IfOk};
+ghost use Rattle.std.specs.Prelude.{◌≡◌, true};
 ghost use Rattle.ds_base.specs.Geometry.{IsGeom};
 ghost use Rattle.ds_base.specs.Names.{IsName};
 ghost use Rattle.ds_changes.specs.Entering.{make_call};
@@ -15,7 +15,7 @@ use crate::redos::{redo_filled, redo_grown};
 use ds_base::{Geom, Key, Kind, Name, NodeKind, SlotNo, Word};
 use ds_image::{Ask, Plan, Seen};
 use ds_jrnl::Redo;
-use ds_plans::{dir_of_key, entries_before, free_room, wanted_item};
+use ds_plans::{Stop, dir_of_key, name_of, room_for, wanted_item};
 use ds_tree::{Call, CallOf, TreeReply};
 use std::marker::Model;
 
@@ -89,22 +89,22 @@ impl Make {
     {
         match self.change_known(seen) {
             Ok(Making { redo, key }) => Ask::Change(redo, TreeReply::Made { key }),
-            Err(ask) => ask,
+            Err(stop) => stop.ask(),
         }
     }
 
     /// The change, or what is asked for before it is known.
-    fn change_known(&self, seen: &Seen) -> Result<Making, Ask>
+    fn change_known(&self, seen: &Seen) -> Result<Making, Stop>
         ensures answer { (p : Parts) → Reads self.now.geom (look_of seen.now) p
             → result ≡ change_known self.now.geom self.now.slot seen.now p self.now.dir self.now.name self.now.kind }
         ensures geom { IsGeom self.now.geom }
         ensures name { IsName self.now.name }
     {
         let dir = dir_of_key(&self.geom, seen, &self.dir)?;
-        entries_before(&self.geom, seen, &dir, &self.name)?;
+        let free = room_for(&self.geom, seen, &dir, &self.name)?;
         let new = object_known(&self.geom, seen, self.slot, self.kind, &self.name)?;
         let key = new.entry.key;
-        match free_room(&self.geom, seen, &dir)? {
+        match free {
             Some(free) => Ok(Making {
                 redo: redo_filled(&self.geom, new, free),
                 key,
@@ -118,17 +118,6 @@ impl Make {
             }
         }
     }
-}
-
-/// The name that a word is.
-fn name_of(word: &Word) -> Name
-    requires { IsName word.now }
-    ensures { result ≡ word.now }
-{
-    let Some(name) = Name::read(word) else {
-        unreachable!()
-    };
-    name
 }
 
 impl Plan for Make {

@@ -1,9 +1,8 @@
 //! New objects.
-ghost use Rattle.std.specs.Prelude.{◌≡◌, ◌<◌, ◌^◌, IfOk, Some, None};
+ghost use Rattle.std.specs.Prelude.{◌≡◌, ◌<◌, ◌^◌, IfOk, Some};
 ghost use Rattle.ds_base.specs.Geometry.{IsGeom, items_of};
 ghost use Rattle.ds_base.specs.Names.{IsName};
 ghost use Rattle.ds_base.specs.declared.geometry.Kind.TheVariants.{Fd};
-ghost use Rattle.ds_fd.specs.Body.{links_of};
 ghost use Rattle.ds_image.specs.Parts.{Parts};
 ghost use Rattle.ds_image.specs.Readings.{Reads};
 ghost use Rattle.ds_image.specs.SeenValues.{IsSeen, look_of};
@@ -14,9 +13,9 @@ ghost use Rattle.ds_make.specs.Redos.{begun, new_object};
 use ds_base::{Geom, Key, Kind, Name, NodeKind, ObjNo, SlotNo};
 use ds_dir::Entry;
 use ds_fd::Body;
-use ds_image::{Ask, Seen};
+use ds_image::Seen;
 use ds_layout::{Place, sector_of};
-use ds_plans::{FreeItem, body_seen, number_of, wanted_item};
+use ds_plans::{FreeItem, Stop, body_seen, copy_of, number_of, wanted_item};
 
 /// A new object: its descriptor as a free item, its body, and its entry.
 #[derive(Drop)]
@@ -33,7 +32,7 @@ pub fn object_known(
     slot: SlotNo,
     kind: NodeKind,
     name: &Name,
-) -> Result<NewObject, Ask>
+) -> Result<NewObject, Stop>
     requires { IsGeom geom.now }
     ensures answer { (p : Parts) → Reads geom.now (look_of seen.now) p
         → result ≡ object_known geom.now slot seen.now p kind name.now }
@@ -46,7 +45,7 @@ pub fn object_known(
 }
 
 /// The body of a descriptor that can begin a new life.
-fn unused_body(geom: &Geom, seen: &Seen, object: ObjNo) -> Result<Body, Ask>
+fn unused_body(geom: &Geom, seen: &Seen, object: ObjNo) -> Result<Body, Stop>
     requires geom { IsGeom geom.now }
     requires inside { object < items_of geom.now Fd }
     ensures answer { (p : Parts) → Reads geom.now (look_of seen.now) p
@@ -55,14 +54,14 @@ fn unused_body(geom: &Geom, seen: &Seen, object: ObjNo) -> Result<Body, Ask>
     ensures whole { IsSeen seen.now }
 {
     if !seen.has_lock(object) {
-        return Err(Ask::Lock(object));
+        return Err(Stop::Lock(object));
     }
     let body = body_seen(geom, seen, object)?;
     if body.kind.is_some() {
-        return Err(Ask::Odd(sector_of(geom, &Place::Body(object))));
+        return Err(Stop::Odd(sector_of(geom, &Place::Body(object))));
     }
     if body.birth >= 1 << 62 {
-        return Err(Ask::Worn(object));
+        return Err(Stop::Worn(object));
     }
     Ok(body)
 }
@@ -83,16 +82,6 @@ fn new_object(item: FreeItem, before: &Body, kind: NodeKind, name: &Name) -> New
         kind,
     };
     NewObject { item, body, entry }
-}
-
-fn copy_of(name: &Name) -> Name
-    ensures same { result ≡ name.now }
-    ensures named { IsName name.now }
-{
-    let Some(copy) = Name::from_bytes(name.bytes()) else {
-        unreachable!()
-    };
-    copy
 }
 
 /// The body of an unused descriptor as it begins its next life.

@@ -13,7 +13,6 @@ use Rattle.ds_fd.specs.declared.body.Body.{Body}
 use Rattle.ds_image.specs.Objects.{rooms_in, used_rooms}
 use Rattle.ds_image.specs.Parts.{Parts, part_at}
 use Rattle.ds_image.specs.SeenValues.{SeenValue}
-use Rattle.ds_image.specs.declared.asks.Ask.{Ask}
 use Rattle.ds_image.proofs.ListedItems.{used_rooms-more}
 use Rattle.ds_names.specs.Answers.{page_known}
 use Rattle.ds_names.specs.Pages.{name_cmp, page_names, page_of}
@@ -21,6 +20,7 @@ use Rattle.ds_plans.specs.Bodies.{sub_seen}
 use Rattle.ds_plans.specs.Entries.{subs_known}
 use Rattle.ds_plans.specs.Steps.{after}
 use Rattle.ds_plans.proofs.Finding.{sub-there}
+use Rattle.ds_plans.specs.declared.stops.Stop.{Stop}
 use Rattle.ds_tree.specs.declared.calls.TreeReply.{TreeReply}
 use Rattle.ds_tree.specs.declared.calls.TreeReply.TheVariants as replies
 
@@ -55,15 +55,15 @@ module _ (g : Geom) (seen : SeenValue) (p : Parts) (b : Body) (subs : List ℕ) 
   -- one more sub-block is known
   pub known_more : (block : SubBlock) → sub_seen g seen p b (get_or subs i 0) ≡ Ok block
       → subs_known g seen p b (drop i subs) ≡ subs_known g seen p b (drop (i + 1) subs)
-  known_more block is = next ∙ ap (λ (r : Result SubBlock Ask). after r (λ block. subs_known g seen p b (drop (i + 1) subs))) is
+  known_more block is = next ∙ ap (λ (r : Result SubBlock Stop). after r (λ block. subs_known g seen p b (drop (i + 1) subs))) is
 
   -- or isn't
-  pub known_not : (above : Option (List ℕ)) (ask : Ask) → sub_seen g seen p b (get_or subs i 0) ≡ Err ask
-      → subs_known g seen p b subs ≡ subs_known g seen p b (drop i subs) → Err ask ≡ page_known g seen p above b subs
-  known_not above ask is before =
-      let stop : subs_known g seen p b subs ≡ Err ask =
-      before ∙ next ∙ ap (λ (r : Result SubBlock Ask). after r (λ block. subs_known g seen p b (drop (i + 1) subs))) is in
-      sym (ap (λ (r : Result Body Ask). after r (λ c. Ok (page_of above (used_rooms p subs)))) stop)
+  pub known_not : (above : Option (List ℕ)) (stop : Stop) → sub_seen g seen p b (get_or subs i 0) ≡ Err stop
+      → subs_known g seen p b subs ≡ subs_known g seen p b (drop i subs) → Err stop ≡ page_known g seen p above b subs
+  known_not above stop is before =
+      let stopped : subs_known g seen p b subs ≡ Err stop =
+      before ∙ next ∙ ap (λ (r : Result SubBlock Stop). after r (λ block. subs_known g seen p b (drop (i + 1) subs))) is in
+      sym (ap (λ (r : Result Body Stop). after r (λ c. Ok (page_of above (used_rooms p subs)))) stopped)
 
   -- the entries of one more sub-block
   pub entries_more : (block : SubBlock) → sub_seen g seen p b (get_or subs i 0) ≡ Ok block
@@ -82,4 +82,4 @@ page_whole g seen p b subs i above total names past known count page =
     let whole : subs_known g seen p b subs ≡ Ok b = known ∙ ap (subs_known g seen p b) (drop_all i subs past) in
     ap (λ n. Ok (replies.Page n (record { items = names }))) (count ∙ ap length all)
     ∙ ap (λ (l : List (List ℕ × Key)). Ok (replies.Page (length (used_rooms p subs)) (record { items = l }))) (page ∙ ap (page_names above) all)
-    ∙ sym (ap (λ (r : Result Body Ask). after r (λ c. Ok (page_of above (used_rooms p subs)))) whole)
+    ∙ sym (ap (λ (r : Result Body Stop). after r (λ c. Ok (page_of above (used_rooms p subs)))) whole)

@@ -7,7 +7,6 @@ use Rattle.ds_image.specs.Objects.{subs_of, used_rooms}
 use Rattle.ds_image.specs.Parts.{Parts}
 use Rattle.ds_image.specs.Planning.{Answers}
 use Rattle.ds_image.specs.SeenValues.{SeenValue}
-use Rattle.ds_image.specs.declared.asks.Ask.{Ask}
 use Rattle.ds_names.specs.declared.reading.ReadCall.{ReadCall}
 use Rattle.ds_names.specs.declared.reading.ReadCall.TheVariants as kept
 use Rattle.ds_names.specs.Pages.{page_of}
@@ -15,6 +14,7 @@ use Rattle.ds_plans.specs.Bodies.{dir_of_key}
 use Rattle.ds_plans.specs.Entries.{found_in, subs_known}
 use Rattle.ds_plans.specs.Steps.{after, settled}
 use Rattle.ds_plans.specs.declared.entries.Found.{Found}
+use Rattle.ds_plans.specs.declared.stops.Stop.{Stop}
 use Rattle.ds_tree.specs.declared.calls.CallOf.{CallOf}
 use Rattle.ds_tree.specs.declared.calls.CallOf.TheVariants as calls
 use Rattle.ds_tree.specs.declared.calls.TreeReply.{TreeReply}
@@ -42,20 +42,20 @@ lookup_reply None = replies.NotFound
 lookup_reply (Some found) = replies.Found found.key found.kind
 
 -- a Lookup knows its reply once it knows the directory, and the entry there
-abbrev pub lookup_known : Geom → SeenValue → Parts → Key → List ℕ → Result TreeReply Ask
+abbrev pub lookup_known : Geom → SeenValue → Parts → Key → List ℕ → Result TreeReply Stop
 lookup_known g seen p dir name =
     after (dir_of_key g seen p dir) (λ b. after (found_in g seen p b name) (λ found. Ok (lookup_reply found)))
 
 -- a page of a directory with these sub-blocks is known once all of them are
-abbrev pub page_known : Geom → SeenValue → Parts → Option (List ℕ) → Body → List ℕ → Result TreeReply Ask
+abbrev pub page_known : Geom → SeenValue → Parts → Option (List ℕ) → Body → List ℕ → Result TreeReply Stop
 page_known g seen p above b subs = after (subs_known g seen p b subs) (λ _. Ok (page_of above (used_rooms p subs)))
 
 -- a List knows its reply once it knows the directory, and the page there
-abbrev pub list_known : Geom → SeenValue → Parts → Key → Option (List ℕ) → Result TreeReply Ask
+abbrev pub list_known : Geom → SeenValue → Parts → Key → Option (List ℕ) → Result TreeReply Stop
 list_known g seen p dir above = after (dir_of_key g seen p dir) (λ b. page_known g seen p above b (subs_of (Some b)))
 
 -- so does each call
-abbrev pub known_by : Geom → SeenValue → Parts → ReadCall → Result TreeReply Ask
+abbrev pub known_by : Geom → SeenValue → Parts → ReadCall → Result TreeReply Stop
 known_by g seen p (kept.Lookup dir name) = lookup_known g seen p dir name
 known_by g seen p (kept.List dir above) = list_known g seen p dir above
 

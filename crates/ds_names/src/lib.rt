@@ -6,6 +6,8 @@ mod names;
 mod reading;
 #[cfg(test)]
 mod tests;
+#[cfg(test)]
+mod tree_tests;
 
 pub use names::Names;
 pub use reading::{DirReads, ReadCall};

@@ -15,8 +15,8 @@ use arrayvec::ArrayVec;
 use ds_base::{Geom, Key, Name};
 use ds_dir::Entry;
 use ds_fd::Body;
-use ds_image::{Ask, Seen};
-use ds_plans::{dir_of_key, sub_block, subs_of};
+use ds_image::Seen;
+use ds_plans::{Stop, copy_of, dir_of_key, sub_block, subs_of};
 use ds_tree::TreeReply;
 use std::cmp::Ordering;
 
@@ -29,7 +29,7 @@ pub(crate) fn list(
     seen: &Seen,
     dir: &Key,
     after: &Option<Name>,
-) -> Result<TreeReply, Ask>
+) -> Result<TreeReply, Stop>
     requires { IsGeom geom.now }
     ensures { (p : Parts) → Reads geom.now (look_of seen.now) p
         → result ≡ list_known geom.now seen.now p dir.now after.now }
@@ -45,7 +45,7 @@ fn page_of(
     dir: &Body,
     subs: &[u32],
     after: &Option<Name>,
-) -> Result<TreeReply, Ask>
+) -> Result<TreeReply, Stop>
     requires geom { IsGeom geom.now }
     requires inside { dir.now.object < items_of geom.now Fd }
     requires few { length subs.now ≤ 96 }
@@ -141,13 +141,4 @@ fn place_in(names: &[(Name, Key)], name: &Name) -> Option<usize>
         }
     }
     Some(names.len())
-}
-
-fn copy_of(name: &Name) -> Name
-    ensures { result ≡ name.now }
-{
-    let Some(copy) = Name::from_bytes(name.bytes()) else {
-        unreachable!()
-    };
-    copy
 }

@@ -11,7 +11,7 @@ ghost use Rattle.ds_tree.specs.CallNames.{HasNames};
 use crate::listing::list;
 use ds_base::{Geom, Key, Name, SlotNo, Word};
 use ds_image::{Ask, Plan, Seen};
-use ds_plans::{dir_of_key, find};
+use ds_plans::{Stop, dir_of_key, find, name_of};
 use ds_tree::{Call, CallOf, TreeReply};
 use std::marker::Model;
 
@@ -84,12 +84,12 @@ impl DirReads {
     {
         match self.known(seen) {
             Ok(reply) => Ask::Done(reply),
-            Err(ask) => ask,
+            Err(stop) => stop.ask(),
         }
     }
 
     /// The reply, or what is asked for before it is known.
-    fn known(&self, seen: &Seen) -> Result<TreeReply, Ask>
+    fn known(&self, seen: &Seen) -> Result<TreeReply, Stop>
         ensures { (p : Parts) → Reads self.now.geom (look_of seen.now) p
             → result ≡ known_by self.now.geom seen.now p self.now.call }
     {
@@ -98,17 +98,6 @@ impl DirReads {
             ReadCall::List { dir, after } => list(&self.geom, seen, dir, after),
         }
     }
-}
-
-/// The name that a word is.
-fn name_of(word: &Word) -> Name
-    requires { IsName word.now }
-    ensures { result ≡ word.now }
-{
-    let Some(name) = Name::read(word) else {
-        unreachable!()
-    };
-    name
 }
 
 fn name_of_optional(word: &Option<Word>) -> Option<Name>
@@ -122,7 +111,7 @@ fn name_of_optional(word: &Option<Word>) -> Option<Name>
 }
 
 /// What Lookup answers.
-fn lookup(geom: &Geom, seen: &Seen, dir: &Key, name: &Name) -> Result<TreeReply, Ask>
+fn lookup(geom: &Geom, seen: &Seen, dir: &Key, name: &Name) -> Result<TreeReply, Stop>
     requires { IsGeom geom.now }
     ensures { (p : Parts) → Reads geom.now (look_of seen.now) p
         → result ≡ lookup_known geom.now seen.now p dir.now name.now }

@@ -1,7 +1,7 @@
 //! Lookups and lists on a volume whose root has 36 files in twelve sub-blocks, each with a free room: what is asked for in which
 //! order, and replies as the tree of the volume gives them.
 ghost use Rattle.std.specs.Prelude.{IsTrue};
-ghost use Rattle.ds_names.specs.Answers.{IsRead};
+ghost use Rattle.ds_names.specs.Calls.{IsOnNames};
 ghost use Rattle.ds_tree.specs.CallNames.{HasNames};
 
 use super::*;
@@ -159,11 +159,17 @@ fn list(rt: &impl Abort, dir: Key, after: Option<&[u8]>) -> Call {
 }
 
 /// Whether each word of a call is a name.
-fn has_names(call: &Call) -> bool
-    ensures { IsTrue result → IsRead call.now → HasNames call.now }
+pub(crate) fn has_names(call: &Call) -> bool
+    ensures { IsTrue result → IsOnNames call.now → HasNames call.now }
 {
     match call {
         CallOf::Lookup { name, .. } => Name::read(name).is_some(),
+        CallOf::Mkdir { name, .. } => Name::read(name).is_some(),
+        CallOf::Create { name, .. } => Name::read(name).is_some(),
+        CallOf::Remove { name, .. } => Name::read(name).is_some(),
+        CallOf::Rmdir { name, .. } => Name::read(name).is_some(),
+        CallOf::Rename { name, fresh, .. } => Name::read(name).is_some()
+            && Name::read(fresh).is_some(),
         CallOf::List {
             after: Some(name),
             ..
@@ -172,13 +178,18 @@ fn has_names(call: &Call) -> bool
     }
 }
 
-/// Whether a call reads the names of a directory.
-fn reads_names(call: &Call) -> bool
-    ensures { IsTrue result → IsRead call.now }
+/// Whether a call is on names, by its kind.
+pub(crate) fn is_on_names(call: &Call) -> bool
+    ensures { IsTrue result → IsOnNames call.now }
 {
     match call {
         CallOf::Lookup { .. } => true,
         CallOf::List { .. } => true,
+        CallOf::Mkdir { .. } => true,
+        CallOf::Create { .. } => true,
+        CallOf::Remove { .. } => true,
+        CallOf::Rmdir { .. } => true,
+        CallOf::Rename { .. } => true,
         _ => false,
     }
 }
@@ -191,9 +202,9 @@ fn asked_of(
     call: &Call,
 ) -> Result<(Vec<Asked>, Ask), Fail> {
     assert!(rt; SHAPE.check().is_ok());
-    assert!(rt; reads_names(call));
+    assert!(rt; is_on_names(call));
     assert!(rt; has_names(call));
-    let plan = DirReads::new(&SHAPE, 0, call);
+    let plan = Names::new(&SHAPE, 0, call);
     let mut seen = Seen::new(alloc)?;
     let mut asked = Vec::new(alloc);
     for step in 0..60 {
@@ -237,7 +248,7 @@ fn reply_of(
     call: &Call,
 ) -> Result<TreeReply, Fail> {
     let mut tree = read_tree(alloc, image)?.ok_or("it stands for none")?;
-    assert!(rt; reads_names(call));
+    assert!(rt; is_on_names(call));
     assert!(rt; has_names(call));
     assert!(rt; !tree.worn());
     let reply = tree.call(call)?;
@@ -352,6 +363,47 @@ fn a_sector_that_fits_no_tree_is_odd(rt: HostRuntime) -> Result<(), Fail> {
             matches!(end, Ask::Done(TreeReply::Found { .. })),
             "{wrong:?}"
         );
+    }
+    Ok(())
+}
+
+/// A call that changes names, refused.
+#[test]
+fn refusals_of_other_calls_are_those_of_the_tree(rt: HostRuntime) -> Result<(), Fail> {
+    let lun = lun_of(rt.alloc(), Wrong::Nothing)?;
+    let image = image_of(rt.alloc(), &lun)?;
+    let word = |bytes: &[u8]| Word::new(bytes).expect(&rt, "a word");
+    let (dir, to) = (ROOT, ROOT);
+    let name = word(b"n35");
+    let fresh = word(b"n34");
+    let refused = [
+        (CallOf::Create { dir, name }, TreeReply::Exists),
+        (
+            CallOf::Remove {
+                dir,
+                name: word(b"n"),
+            },
+            TreeReply::NotFound,
+        ),
+        (
+            CallOf::Rmdir {
+                dir,
+                name: word(b"n35"),
+            },
+            TreeReply::NotDir,
+        ),
+        (
+            CallOf::Rename {
+                dir,
+                name: word(b"n35"),
+                to,
+                fresh,
+            },
+            TreeReply::Exists,
+        ),
+    ];
+    for (call, expected) in &refused {
+        assert_eq!(rt; &reply_of(&rt, rt.alloc(), &image, call)?, expected);
     }
     Ok(())
 }

@@ -17,11 +17,11 @@ use Rattle.ds_image.proofs.Decoded.{decoded_same, spelled_at}
 use Rattle.ds_layout.specs.Places.{place_sector}
 use Rattle.ds_layout.specs.declared.places.Place.TheVariants as places
 use Rattle.ds_image.specs.SeenValues.{SeenValue}
-use Rattle.ds_image.specs.declared.asks.Ask.{Ask}
 use Rattle.ds_plans.specs.Items.{first_clear, map_seen, item_or, item_from}
 use Rattle.ds_plans.specs.declared.items.FreeItem.{FreeItem}
 use Rattle.ds_plans.specs.Locks.{cluster_tried}
 use Rattle.ds_plans.specs.Steps.{after}
+use Rattle.ds_plans.specs.declared.stops.Stop.{Stop}
 
 -- what is decoded of a sector that is there is the part of its number
 pub map_decoded : (g : Geom) (look : Look) (p : Parts) (kind : Kind) (cluster at : ℕ) (s : Sector) (r : Option Bitmap) → cluster < clusters_of g kind
@@ -65,17 +65,17 @@ first_clear-free (false ∷ used) item is = let same : 0 ≡ item = cc in ap (sl
 first_clear-free (true ∷ used) item is = first_clear-behind used item (first_clear used) (first_clear-free used) refl is
 
 -- what is asked for is handed on
-pub err-handed : {V : Type 0} (r read : Result V Ask) (ask : Ask) → IsErrAnd r (λ e. e ≡ ask) → read ≡ Err ask → r ≡ read
-err-handed (Ok v) read ask err is = absurd err
-err-handed (Err other) read ask err is = ap Err err ∙ sym is
+pub err-handed : {V : Type 0} (r read : Result V Stop) (stop : Stop) → IsErrAnd r (λ e. e ≡ stop) → read ≡ Err stop → r ≡ read
+err-handed (Ok v) read stop err is = absurd err
+err-handed (Err other) read stop err is = ap Err err ∙ sym is
 
 -- the clusters that are left, one after another
 module _ (g : Geom) (slot : ℕ) (seen : SeenValue) (p : Parts) (kind : Kind) (tried cluster : ℕ) (l : tried < clusters_of g kind)
     (here : cluster ≡ cluster_tried g slot kind tried) where
-  abbrev left : ℕ → Result (Option FreeItem) Ask
+  abbrev left : ℕ → Result (Option FreeItem) Stop
   left n = item_from g slot seen p kind n (clusters_of g kind - n)
 
-  abbrev next : Bitmap → Result (Option FreeItem) Ask
+  abbrev next : Bitmap → Result (Option FreeItem) Stop
   next map = item_or (cluster_tried g slot kind tried) map (first_clear map.used) (item_from g slot seen p kind (suc tried) (clusters_of g kind - suc tried))
 
   free-step : left tried ≡ after (map_seen g seen p kind (cluster_tried g slot kind tried)) next
@@ -83,8 +83,8 @@ module _ (g : Geom) (slot : ℕ) (seen : SeenValue) (p : Parts) (kind : Kind) (t
       let more : clusters_of g kind - tried ≡ suc (clusters_of g kind - suc tried) = omega (arith, l) in
       ap (item_from g slot seen p kind tried) more
 
-  pub free-err : (ask : Ask) → map_seen g seen p kind cluster ≡ Err ask → left tried ≡ Err ask
-  free-err ask is = free-step ∙ ap (λ r. after r next) (ap (map_seen g seen p kind) (sym here) ∙ is)
+  pub free-err : (stop : Stop) → map_seen g seen p kind cluster ≡ Err stop → left tried ≡ Err stop
+  free-err stop is = free-step ∙ ap (λ r. after r next) (ap (map_seen g seen p kind) (sym here) ∙ is)
 
   pub free-some : (map : Bitmap) (item : ℕ) → map_seen g seen p kind cluster ≡ Ok map → first_clear map.used ≡ Some item
       → left tried ≡ Ok (Some (record { cluster = cluster; item = item; map = map }))

@@ -15,6 +15,7 @@ use Rattle.ds_base.specs.Geometry.{items_of, per_cluster}
 use Rattle.ds_base.specs.declared.geometry.Geom.{Geom}
 use Rattle.ds_base.specs.declared.geometry.Kind.TheVariants.{Sb}
 use Rattle.ds_base.specs.declared.names.Key.{Key}
+use Rattle.ds_base.specs.declared.names.NodeKind.{NodeKind}
 use Rattle.ds_base.specs.declared.names.NodeKind.TheVariants as kinds
 use Rattle.ds_base.specs.declared.sectors.Sector.{Sector}
 use Rattle.ds_dir.specs.declared.sub_block.Entry.{Entry}
@@ -38,13 +39,16 @@ use Rattle.ds_layout.specs.Places.{place_sector, cluster_lock}
 use Rattle.ds_layout.specs.declared.places.Place.TheVariants as places
 use Rattle.ds_plans.specs.Bodies.{part_seen, sub_seen}
 use Rattle.ds_plans.specs.DirAsks.{DirAsks}
-use Rattle.ds_plans.specs.DirSeen.{HasDir, HasSub, said_found, said_entry, IsFoundIn, AreAllIn}
-use Rattle.ds_plans.specs.Entries.{entry_named, found_among, found_from, found_in, subs_known}
+use Rattle.ds_plans.specs.DirSeen.{HasDir, HasSub, said_entry, IsFoundIn, AreAllIn}
+use Rattle.ds_plans.specs.Entries.{entry_named, named_among, found_at, found_from, found_in, subs_known}
 use Rattle.ds_plans.specs.Goes.{Goes}
-use Rattle.ds_plans.specs.declared.entries.Found.{Found}
+use Rattle.ds_plans.specs.Steps.{or_later}
+use Rattle.ds_plans.specs.declared.entries.Named.{Named}
 use Rattle.ds_plans.proofs.Alike.{sub_alike}
 use Rattle.ds_plans.proofs.Dirs.{dir_in}
 use Rattle.ds_plans.proofs.Going.{goes-after, goes-weaker, goes-if, goes-part}
+use Rattle.ds_plans.specs.declared.stops.Stop.{Stop}
+use Rattle.ds_plans.specs.declared.stops.Stop.TheVariants as stops
 use Rattle.ds_tree.specs.Nodes.{FileTree}
 use Rattle.ds_tree.specs.declared.calls.CallOf.{CallOf}
 
@@ -78,48 +82,88 @@ mapped-any f (x ∷ xs) (suc i) n at = ap (λ b. nat_eq (f n) (f x) || b) (mappe
 -- Entries by name
 
 -- where no room of a sub-block has the name, the first entry that has it is one behind these rooms
-pub none-among : (sub room : ℕ) (name : List ℕ) (rooms : List (Option Entry)) (others : List Entry) → found_among sub room name rooms ≡ None
+pub none-among : (room : ℕ) (name : List ℕ) (rooms : List (Option Entry)) (others : List Entry) → named_among room name rooms ≡ None
     → entry_named (filter_map (λ room. room) rooms ++ others) name ≡ entry_named others name
-none-among sub room name [] others none = refl
-none-among sub room name (None ∷ rooms) others none = none-among sub (suc room) name rooms others none
-none-among sub room name (Some e ∷ rooms) others none = elim (cases_Bool (bytes_eq name e.name)) [
+none-among room name [] others none = refl
+none-among room name (None ∷ rooms) others none = none-among (suc room) name rooms others none
+none-among room name (Some e ∷ rooms) others none = elim (cases_Bool (bytes_eq name e.name)) [
   | inl here ↦
-      let wrong : ◌≡◌ {A = Option Found} (Some (record { sub = sub; room = room; key = e.key; kind = e.kind })) None =
-      sym (ap (λ b. elim (if b then Some (record { sub = sub; room = room; key = e.key; kind = e.kind }) else None) [
-        | None ↦ found_among sub (suc room) name rooms
-        | Some found ↦ Some found
+      let wrong : ◌≡◌ {A = Option Named} (Some (record { room = room; key = e.key; kind = e.kind })) None =
+      sym (ap (λ b. elim (if b then Some (record { room = room; key = e.key; kind = e.kind }) else None) [
+        | None ↦ named_among (suc room) name rooms
+        | Some named ↦ Some named
       ]) here) ∙ none in
       absurd cc
   | inr other ↦
       ap (λ b. if b then Some e else entry_named (filter_map (λ room. room) rooms ++ others) name) other
-      ∙ none-among sub (suc room) name rooms others
-      (sym (ap (λ b. elim (if b then Some (record { sub = sub; room = room; key = e.key; kind = e.kind }) else None) [
-        | None ↦ found_among sub (suc room) name rooms
-        | Some found ↦ Some found
+      ∙ none-among (suc room) name rooms others
+      (sym (ap (λ b. elim (if b then Some (record { room = room; key = e.key; kind = e.kind }) else None) [
+        | None ↦ named_among (suc room) name rooms
+        | Some named ↦ Some named
       ]) other) ∙ none)
 ]
 
 -- and else it is the one that was found
-some-among : (sub room : ℕ) (name : List ℕ) (rooms : List (Option Entry)) (others : List Entry) (f : Found) → found_among sub room name rooms ≡ Some f
-    → said_found (Some f) ≡ said_entry (entry_named (filter_map (λ room. room) rooms ++ others) name)
-some-among sub room name [] others f found = absurd cc
-some-among sub room name (None ∷ rooms) others f found = some-among sub (suc room) name rooms others f found
-some-among sub room name (Some e ∷ rooms) others f found = elim (cases_Bool (bytes_eq name e.name)) [
+pub record IsAmong (room : ℕ) (name : List ℕ) (rooms : List (Option Entry)) (named : Named) : Type 0 where
+  pub place : ℕ
+  pub entry : Entry
+  pub room_is : named.room ≡ room + place
+  pub used : slice_get rooms place ≡ Some (Some entry)
+  pub key : named.key ≡ entry.key
+  pub kind : named.kind ≡ entry.kind
+  pub is_named : entry.name ≡ name
+  pub first : (others : List Entry) → entry_named (filter_map (λ room. room) rooms ++ others) name ≡ Some entry
+
+pub among-known : (room : ℕ) (name : List ℕ) (rooms : List (Option Entry)) (named : Named) → named_among room name rooms ≡ Some named → IsAmong room name rooms named
+among-known room name [] named found = absurd cc
+among-known room name (None ∷ rooms) named found =
+    let rest = among-known (suc room) name rooms named found in
+    record {
+      place = suc rest.place;
+      entry = rest.entry;
+      room_is = omega (arith, rest.room_is);
+      used = rest.used;
+      key = rest.key;
+      kind = rest.kind;
+      is_named = rest.is_named;
+      first = rest.first;
+    }
+among-known room name (Some e ∷ rooms) named found = elim (cases_Bool (bytes_eq name e.name)) [
   | inl here ↦
-      let is : Some (record { sub = sub; room = room; key = e.key; kind = e.kind }) ≡ Some f =
-      sym (ap (λ b. elim (if b then Some (record { sub = sub; room = room; key = e.key; kind = e.kind }) else None) [
-        | None ↦ found_among sub (suc room) name rooms
-        | Some found ↦ Some found
+      let is : ◌≡◌ {A = Option Named} (Some (record { room = room; key = e.key; kind = e.kind })) (Some named) =
+      sym (ap (λ b. elim (if b then Some (record { room = room; key = e.key; kind = e.kind }) else None) [
+        | None ↦ named_among (suc room) name rooms
+        | Some named ↦ Some named
       ]) here) ∙ found in
-      ap said_found (sym is)
-      ∙ ap (λ b. said_entry (if b then Some e else entry_named (filter_map (λ room. room) rooms ++ others) name)) (sym here)
+      let same : ◌≡◌ {A = Named} (record { room = room; key = e.key; kind = e.kind }) named = cc in
+      let none : room ≡ room + 0 = omega arith in
+      record {
+        place = 0;
+        entry = e;
+        room_is = ap (λ (n : Named). n.room) (sym same) ∙ none;
+        used = refl;
+        key = ap (λ (n : Named). n.key) (sym same);
+        kind = ap (λ (n : Named). n.kind) (sym same);
+        is_named = sym ((bytes_eq-Decides name e.name).0 here);
+        first = λ others. ap (λ b. if b then Some e else entry_named (filter_map (λ room. room) rooms ++ others) name) here;
+      }
   | inr other ↦
-      some-among sub (suc room) name rooms others f
-      (sym (ap (λ b. elim (if b then Some (record { sub = sub; room = room; key = e.key; kind = e.kind }) else None) [
-        | None ↦ found_among sub (suc room) name rooms
-        | Some found ↦ Some found
-      ]) other) ∙ found)
-      ∙ ap (λ b. said_entry (if b then Some e else entry_named (filter_map (λ room. room) rooms ++ others) name)) (sym other)
+      let rest = among-known (suc room) name rooms named
+      (sym (ap (λ b. elim (if b then Some (record { room = room; key = e.key; kind = e.kind }) else None) [
+        | None ↦ named_among (suc room) name rooms
+        | Some named ↦ Some named
+      ]) other) ∙ found) in
+      record {
+        place = suc rest.place;
+        entry = rest.entry;
+        room_is = omega (arith, rest.room_is);
+        used = rest.used;
+        key = rest.key;
+        kind = rest.kind;
+        is_named = rest.is_named;
+        first = λ others.
+            ap (λ b. if b then Some e else entry_named (filter_map (λ room. room) rooms ++ others) name) other ∙ rest.first others;
+      }
 ]
 
 -- the first entry of a name stands among the entries, and has the name
@@ -163,10 +207,10 @@ pub sub-there : (g : Geom) (seen : SeenValue) (p : Parts) (b : Body) (n : ℕ) (
 sub-there g seen p b n block is = elim (cases_Bool (nat_lt n (items_of g Sb))) [
   | inl inside ↦
       seen-there (place_sector g (places.SubBlock n)) (look_of seen (place_sector g (places.SubBlock n))) (part_at p.subs n) block
-      (sym (ap (λ test. if test then part_seen (place_sector g (places.SubBlock n)) (look_of seen (place_sector g (places.SubBlock n))) (part_at p.subs n) else Err (asks.Odd (place_sector g (places.Body b.object)))) inside) ∙ is)
+      (sym (ap (λ test. if test then part_seen (place_sector g (places.SubBlock n)) (look_of seen (place_sector g (places.SubBlock n))) (part_at p.subs n) else Err (stops.Odd (place_sector g (places.Body b.object)))) inside) ∙ is)
   | inr past ↦
-      let wrong : ◌≡◌ {A = Result SubBlock Ask} (Err (asks.Odd (place_sector g (places.Body b.object)))) (Ok block) =
-      sym (ap (λ test. if test then part_seen (place_sector g (places.SubBlock n)) (look_of seen (place_sector g (places.SubBlock n))) (part_at p.subs n) else Err (asks.Odd (place_sector g (places.Body b.object)))) past) ∙ is in
+      let wrong : ◌≡◌ {A = Result SubBlock Stop} (Err (stops.Odd (place_sector g (places.Body b.object)))) (Ok block) =
+      sym (ap (λ test. if test then part_seen (place_sector g (places.SubBlock n)) (look_of seen (place_sector g (places.SubBlock n))) (part_at p.subs n) else Err (stops.Odd (place_sector g (places.Body b.object)))) past) ∙ is in
       absurd cc
 ]
 
@@ -276,28 +320,32 @@ module _ (g : Geom) (call : CallOf Key) (dir : Key) (seen : SeenValue) (p : Part
       filter_map-append (λ room. room) (rooms_in (part_at stands.parts.subs n)) (rooms_of stands.parts subs)
       ∙ ap (λ rooms. filter_map (λ room. room) rooms ++ used_rooms stands.parts subs) (rooms_known image t stands agrees n block is)
 
-  chosen : (name : List ℕ) (before n : ℕ) (subs : List ℕ) (block : SubBlock) → HasSub g seen p n block
-      → Goes Good (found_from g seen p b name (suc before) subs) (IsFoundIn g seen subs name) → (r : Option Found) → found_among before 0 name block.rooms ≡ r
-      → Goes Good (elim r as (λ _. Result (Option Found) Ask) [ None ↦ found_from g seen p b name (suc before) subs | Some found ↦ Ok (Some found) ]) (IsFoundIn g seen (n ∷ subs) name)
-  chosen name before n subs block is later None none =
-      goes-weaker Good (IsFoundIn g seen subs name) (IsFoundIn g seen (n ∷ subs) name) (found_from g seen p b name (suc before) subs) later
+  chosen : (name : List ℕ) (n : ℕ) (subs : List ℕ) (block : SubBlock) → HasSub g seen p n block
+      → Goes Good (found_from g seen p b name subs) (IsFoundIn g seen subs name) → (r : Option Named) → named_among 0 name block.rooms ≡ r
+      → Goes Good (or_later (option_map (found_at n block) r) (found_from g seen p b name subs)) (IsFoundIn g seen (n ∷ subs) name)
+  chosen name n subs block is later None none =
+      goes-weaker Good (IsFoundIn g seen subs name) (IsFoundIn g seen (n ∷ subs) name) (found_from g seen p b name subs) later
       (λ r said image t stands agrees.
       said image t stands agrees
       ∙ ap said_entry (sym (ap (λ es. entry_named es name) (used_more image t stands agrees n block subs is)
-      ∙ none-among before 0 name block.rooms (used_rooms stands.parts subs) none)))
-  chosen name before n subs block is later (Some f) found = λ image t stands agrees.
-      some-among before 0 name block.rooms (used_rooms stands.parts subs) f found
+      ∙ none-among 0 name block.rooms (used_rooms stands.parts subs) none)))
+  chosen name n subs block is later (Some named) found = λ image t stands agrees.
+      let among = among-known 0 name block.rooms named found in
+      let said : ◌≡◌ {A = Key × NodeKind} (named.key, named.kind) (among.entry.key, among.entry.kind) =
+      ap (λ (k : Key). (k, named.kind)) among.key ∙ ap (λ (k : NodeKind). (among.entry.key, k)) among.kind in
+      ap Some said
+      ∙ ap said_entry (sym (among.first (used_rooms stands.parts subs)))
       ∙ ap (λ es. said_entry (entry_named es name)) (sym (used_more image t stands agrees n block subs is))
 
   found_goes : (name : List ℕ) (before : ℕ) (subs : List ℕ) → ((i n : ℕ) → slice_get subs i ≡ Some n → slice_get (subs_of (Some b)) (before + i) ≡ Some n)
-      → Goes Good (found_from g seen p b name before subs) (IsFoundIn g seen subs name)
+      → Goes Good (found_from g seen p b name subs) (IsFoundIn g seen subs name)
   found_goes name before [] are = λ image t stands agrees. refl
   found_goes name before (n ∷ subs) are =
       let at : slice_get (subs_of (Some b)) before ≡ Some n = let same : before + 0 ≡ before = omega arith in subst (λ k. slice_get (subs_of (Some b)) k ≡ Some n) same (are 0 n refl) in
       let later = found_goes name (suc before) subs
       (λ i m at. let same : suc before + i ≡ before + suc i = omega arith in subst (λ k. slice_get (subs_of (Some b)) k ≡ Some m) (sym same) (are (suc i) m at)) in
       goes-after Good (HasSub g seen p n) (IsFoundIn g seen (n ∷ subs) name) (sub_seen g seen p b n) _ (sub_goes before n at)
-      (λ block is. chosen name before n subs block is later (found_among before 0 name block.rooms) refl)
+      (λ block is. chosen name n subs block is later (named_among 0 name block.rooms) refl)
 
   -- the entry is known, or what is asked for is good
   pub find_goes : (name : List ℕ) → Goes Good (found_in g seen p b name) (IsFoundIn g seen (subs_of (Some b)) name)

@@ -8,14 +8,14 @@ use Rattle.ds_bitmap.specs.Bits.{Bitmap}
 use Rattle.ds_image.specs.Parts.{Parts}
 use Rattle.ds_image.specs.Pending.{Pair}
 use Rattle.ds_image.specs.SeenValues.{SeenValue}
-use Rattle.ds_image.specs.declared.asks.Ask.{Ask}
-use Rattle.ds_image.specs.declared.asks.Ask.TheVariants.{Odd}
 use Rattle.ds_jrnl.specs.declared.redo.Redo.{Redo}
 use Rattle.ds_plans.specs.Giving.{Maps, some_outside, is_touched, map_left, maps_from, map_sector, map_sectors, with_maps_left, given_up}
 use Rattle.ds_plans.specs.Steps.{after}
+use Rattle.ds_plans.specs.declared.stops.Stop.{Stop}
+use Rattle.ds_plans.specs.declared.stops.Stop.TheVariants.{Odd}
 
 -- what is written so far, and the bitmaps that are still to come
-abbrev pub written_from : Geom → SeenValue → Parts → Kind → List ℕ → Redo → ℕ → Result Redo Ask
+abbrev pub written_from : Geom → SeenValue → Parts → Kind → List ℕ → Redo → ℕ → Result Redo Stop
 written_from g seen p kind items redo from = after (maps_from g seen p kind items from (clusters_of g kind - from)) (λ maps. Ok (with_maps_left g kind redo maps))
 
 one-more : (g : Geom) (kind : Kind) (before after_it : Redo) (from : ℕ) (map : Bitmap) (maps : Maps) → after_it.pairs.items ≡ before.pairs.items ++ map_sector g kind (from, map) ∷ []
@@ -25,7 +25,7 @@ one-more g kind before after_it from map maps more =
     (sym (append_assoc before.pairs.items (map_sector g kind (from, map) ∷ []) (map_sectors g kind maps)) ∙ ap (λ xs. xs ++ map_sectors g kind maps) (sym more))
 
 module _ (g : Geom) (seen : SeenValue) (p : Parts) (kind : Kind) (items : List ℕ) (redo : Redo) (from : ℕ) (l : from < clusters_of g kind) where
-  abbrev next : Result Maps Ask
+  abbrev next : Result Maps Stop
   next = maps_from g seen p kind items (suc from) (clusters_of g kind - suc from)
 
   step : written_from g seen p kind items redo from
@@ -39,8 +39,8 @@ module _ (g : Geom) (seen : SeenValue) (p : Parts) (kind : Kind) (items : List �
   touched-step touched =
       step ∙ ap (λ t. after (if t then after (map_left g seen p kind from items) (λ map. after next (λ maps. Ok ((from, map) ∷ maps))) else next) (λ maps. Ok (with_maps_left g kind redo maps))) touched
 
-  pub give-err : (ask : Ask) → is_touched g kind from items ≡ true → map_left g seen p kind from items ≡ Err ask → written_from g seen p kind items redo from ≡ Err ask
-  give-err ask touched is =
+  pub give-err : (stop : Stop) → is_touched g kind from items ≡ true → map_left g seen p kind from items ≡ Err stop → written_from g seen p kind items redo from ≡ Err stop
+  give-err stop touched is =
       touched-step touched ∙ ap (λ r. after (after r (λ map. after next (λ maps. Ok ((from, map) ∷ maps)))) (λ maps. Ok (with_maps_left g kind redo maps))) is
 
   pub give-more : (map : Bitmap) (written : Redo) → is_touched g kind from items ≡ true → map_left g seen p kind from items ≡ Ok map
@@ -51,9 +51,9 @@ module _ (g : Geom) (seen : SeenValue) (p : Parts) (kind : Kind) (items : List �
       touched-step touched ∙ ap (λ r. after (after r (λ map. after next (λ maps. Ok ((from, map) ∷ maps)))) (λ maps. Ok (with_maps_left g kind redo maps))) is
       ∙ joined next ∙ ap (written_from g seen p kind items written) one
     where
-      joined : (r : Result Maps Ask) → after (after r (λ maps. Ok ((from, map) ∷ maps))) (λ maps. Ok (with_maps_left g kind redo maps)) ≡ after r (λ maps. Ok (with_maps_left g kind written maps))
+      joined : (r : Result Maps Stop) → after (after r (λ maps. Ok ((from, map) ∷ maps))) (λ maps. Ok (with_maps_left g kind redo maps)) ≡ after r (λ maps. Ok (with_maps_left g kind written maps))
       joined (Ok maps) = ap Ok (one-more g kind redo written from map maps more)
-      joined (Err ask) = refl
+      joined (Err stop) = refl
 
   pub give-skip : is_touched g kind from items ≡ false → written_from g seen p kind items redo from ≡ written_from g seen p kind items redo (from + 1)
   give-skip none =

@@ -35,6 +35,7 @@ use Rattle.ds_plans.proofs.ItemWalk.{goes-known}
 use Rattle.ds_plans.proofs.Limits.{if-ok, map_alike, part-known}
 use Rattle.ds_plans.proofs.MapWalk.{map_goes}
 use Rattle.ds_plans.proofs.MapsLeft.{any-some, any-none, without-some, AreLeft, maps-are}
+use Rattle.ds_plans.specs.declared.stops.Stop.TheVariants as stops
 use Rattle.ds_tree.specs.Nodes.{FileTree}
 use Rattle.ds_tree.specs.declared.calls.CallOf.{CallOf}
 
@@ -52,7 +53,7 @@ pub map-known : (g : Geom) (seen : SeenValue) (p : Parts) → Reads g (look_of s
     → map_seen g seen p kind c ≡ Ok map → HasMap g seen p kind c map
 map-known g seen p reads kind c map inside is =
     let at = place_sector g (places.Bitmap kind c) in
-    let held = if-ok (has_lock seen (cluster_lock kind c)) (map_read g seen p kind c) (asks.Lock (cluster_lock kind c)) map is in
+    let held = if-ok (has_lock seen (cluster_lock kind c)) (map_read g seen p kind c) (stops.Lock (cluster_lock kind c)) map is in
     let known = part-known at (look_of seen at) (part_at (maps_of p kind) c) map held.1 in
     record { inside = inside; held = held.0; read = ap is_some known.1; there = known.2; is_bits = (((reads.maps kind).each c inside map).0 known.2).0 }
 
@@ -160,7 +161,7 @@ module _ (g : Geom) (is_geom : IsGeom g) (slot : ℕ) (call : CallOf Key) (MayHo
   -- the bitmaps are known, or what is asked for is good
   pub give_goes : Goes Good (maps_left g seen p kind items listed) (AreLeft g seen p kind items 0)
   give_goes =
-      goes-if Good (AreLeft g seen p kind items 0) (some_outside g kind items) (Err (asks.Odd listed)) (maps_from g seen p kind items 0 (clusters_of g kind))
+      goes-if Good (AreLeft g seen p kind items 0) (some_outside g kind items) (Err (stops.Odd listed)) (maps_from g seen p kind items 0 (clusters_of g kind))
       outside_good
       (λ inside.
       goes-weaker Good (λ maps. Unit {0} × (maps_from g seen p kind items 0 (clusters_of g kind) ≡ Ok maps)) (AreLeft g seen p kind items 0) (maps_from g seen p kind items 0 (clusters_of g kind))

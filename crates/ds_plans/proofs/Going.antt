@@ -7,23 +7,24 @@ use Rattle.ds_image.specs.declared.asks.Ask.TheVariants.{Read, Odd, Done}
 use Rattle.ds_plans.specs.Bodies.{part_seen}
 use Rattle.ds_plans.specs.Goes.{Goes}
 use Rattle.ds_plans.specs.Steps.{after, settled}
+use Rattle.ds_plans.specs.declared.stops.Stop.{Stop}
 use Rattle.ds_tree.specs.declared.calls.TreeReply.{TreeReply}
 
-pub goes-after : {V W : Type 0} (Good : Ask → Type 0) (Is : V → Type 0) (Then : W → Type 0) (r : Result V Ask) (next : V → Result W Ask)
+pub goes-after : {V W : Type 0} (Good : Ask → Type 0) (Is : V → Type 0) (Then : W → Type 0) (r : Result V Stop) (next : V → Result W Stop)
     → Goes Good r Is → ((v : V) → Is v → Goes Good (next v) Then) → Goes Good (after r next) Then
 goes-after Good Is Then (Ok v) next is each = each v is
-goes-after Good Is Then (Err ask) next good each = good
+goes-after Good Is Then (Err stop) next good each = good
 
-pub goes-weaker : {V : Type 0} (Good : Ask → Type 0) (Is Then : V → Type 0) (r : Result V Ask) → Goes Good r Is → ((v : V) → Is v → Then v)
+pub goes-weaker : {V : Type 0} (Good : Ask → Type 0) (Is Then : V → Type 0) (r : Result V Stop) → Goes Good r Is → ((v : V) → Is v → Then v)
     → Goes Good r Then
 goes-weaker Good Is Then (Ok v) is each = each v is
-goes-weaker Good Is Then (Err ask) good each = good
+goes-weaker Good Is Then (Err stop) good each = good
 
-pub goes-settled : (Good : Ask → Type 0) (r : Result TreeReply Ask) → Goes Good r (λ reply. Good (Done reply)) → Good (settled r)
+pub goes-settled : (Good : Ask → Type 0) (r : Result TreeReply Stop) → Goes Good r (λ reply. Good (Done reply)) → Good (settled r)
 goes-settled Good (Ok reply) good = good
-goes-settled Good (Err ask) good = good
+goes-settled Good (Err stop) good = good
 
-pub goes-if : {V : Type 0} (Good : Ask → Type 0) (Is : V → Type 0) (test : Bool) (r s : Result V Ask) → (test ≡ true → Goes Good r Is)
+pub goes-if : {V : Type 0} (Good : Ask → Type 0) (Is : V → Type 0) (test : Bool) (r s : Result V Stop) → (test ≡ true → Goes Good r Is)
     → (test ≡ false → Goes Good s Is) → Goes Good (if test then r else s) Is
 goes-if Good Is true r s one other = one refl
 goes-if Good Is false r s one other = other refl

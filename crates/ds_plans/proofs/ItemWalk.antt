@@ -34,6 +34,7 @@ use Rattle.ds_plans.specs.declared.items.FreeItem.{FreeItem}
 use Rattle.ds_plans.specs.Goes.{Goes}
 use Rattle.ds_plans.specs.Locks.{to_take, Needs, cluster_tried, map_tried, clear_in}
 use Rattle.ds_plans.proofs.Going.{goes-after}
+use Rattle.ds_plans.specs.declared.stops.Stop.{Stop}
 use Rattle.ds_tree.specs.Counts.{free_of}
 use Rattle.ds_tree.specs.Nodes.{FileTree}
 use Rattle.ds_tree.specs.Steps.{Does}
@@ -41,9 +42,9 @@ use Rattle.ds_tree.specs.declared.calls.CallOf.{CallOf}
 use Rattle.ds_tree.specs.declared.calls.TreeReply.TheVariants as replies
 
 -- what is known is what was answered
-pub goes-known : {V : Type 0} (Good : Ask → Type 0) (Is : V → Type 0) (r : Result V Ask) → Goes Good r Is → Goes Good r (λ v. Is v × (r ≡ Ok v))
+pub goes-known : {V : Type 0} (Good : Ask → Type 0) (Is : V → Type 0) (r : Result V Stop) → Goes Good r Is → Goes Good r (λ v. Is v × (r ≡ Ok v))
 goes-known Good Is (Ok v) is = (is, refl)
-goes-known Good Is (Err ask) good = good
+goes-known Good Is (Err stop) good = good
 
 -- Counts
 

@@ -1,6 +1,6 @@
 -- What is known of a directory once it was seen whole.
 use Rattle.std.proofs.Common.{◌≡◌, ℕ, suc, ◌+◌, ◌*◌, ◌<◌, ◌≤◌, ◌==◌, ◌&&◌, Bool, true, false, nat_le, nat_lt, if◌then◌else◌, List, [], ◌∷◌, length, slice_get, Option, None, Some, refl, sym, ap, subst, ◌∙◌, arith, length-take-le, is_some}
-use Rattle.std.specs.Prelude.{Result, Ok, Err, IsSome}
+use Rattle.std.specs.Prelude.{Result, Ok, Err, IsSome, option_map}
 use Rattle.std.proofs.lemmas.Bool.Decides.{nat_tests}
 use Rattle.ds_base.specs.Geometry.{items_of}
 use Rattle.ds_base.specs.declared.geometry.Geom.{Geom}
@@ -17,20 +17,20 @@ use Rattle.ds_image.specs.Objects.{subs_by, subs_of}
 use Rattle.ds_image.specs.Parts.{Parts, part_at}
 use Rattle.ds_image.specs.Readings.{Reads}
 use Rattle.ds_image.specs.SeenValues.{SeenValue, has_lock, look_of}
-use Rattle.ds_image.specs.declared.asks.Ask.{Ask}
-use Rattle.ds_image.specs.declared.asks.Ask.TheVariants.{Done}
 use Rattle.ds_image.proofs.Sizes.{body_is}
 use Rattle.ds_layout.specs.Places.{place_sector}
 use Rattle.ds_layout.specs.declared.places.Place.TheVariants as places
 use Rattle.ds_plans.proofs.Limits.{after-ok, part-known, if-ok}
 use Rattle.ds_plans.specs.Objects.{CanGrow, IsFreeRoom}
-use Rattle.ds_plans.specs.Rooms.{used_count, count_from, count_in, first_room, room_or, room_from, room_in, lacks_by, not_full, entries_before}
+use Rattle.ds_plans.specs.Rooms.{used_count, count_from, count_in, first_room, free_at, room_from, room_in, lacks_by, not_full, entries_before, room_for}
 use Rattle.ds_plans.specs.declared.rooms.FreeRoom.{FreeRoom}
 use Rattle.ds_plans.specs.Bodies.{part_seen, body_seen, body_alive, body_of_key, dir_by, body_of_dir, dir_of_key, sub_seen}
 use Rattle.ds_plans.specs.Entries.{found_in}
-use Rattle.ds_plans.specs.Steps.{after}
+use Rattle.ds_plans.specs.Steps.{after, or_later}
 use Rattle.ds_plans.specs.declared.entries.Found.{Found}
-use Rattle.ds_tree.specs.declared.calls.TreeReply.TheVariants as replies
+use Rattle.ds_plans.specs.declared.stops.Ending.TheVariants as endings
+use Rattle.ds_plans.specs.declared.stops.Stop.{Stop}
+use Rattle.ds_plans.specs.declared.stops.Stop.TheVariants.{Lock, Done}
 
 -- Rooms
 
@@ -72,11 +72,11 @@ module _ (g : Geom) (seen : SeenValue) (p : Parts) (reads : Reads g (look_of see
       chosen known.0 (block-known b n known.0 known.1) (first_room 0 known.0.rooms) refl known.2 (room-free b subs free)
     where
       chosen : (block : SubBlock) → HasBlock g seen p n block → (r : Option ℕ) → first_room 0 block.rooms ≡ r
-          → room_or n block r (room_from g seen p b subs) ≡ Ok (Some free) → (room_from g seen p b subs ≡ Ok (Some free) → IsFreeRoom free × (free.sub < items_of g Sb))
+          → or_later (option_map (free_at n block) r) (room_from g seen p b subs) ≡ Ok (Some free) → (room_from g seen p b subs ≡ Ok (Some free) → IsFreeRoom free × (free.sub < items_of g Sb))
           → IsFreeRoom free × (free.sub < items_of g Sb)
       chosen block has None first found later = later found
       chosen block has (Some room) first found later =
-          let same : record { sub = n; block = block; room = room } ≡ free = cc in
+          let same : free_at n block room ≡ free = cc in
           let at = first_room-free 0 block.rooms room first in
           let here : slice_get block.rooms room ≡ Some None = ap (slice_get block.rooms) (at.1 ∙ (let none : 0 + at.0 ≡ at.0 = omega arith in none)) ∙ at.2 in
           subst (λ (free : FreeRoom). IsFreeRoom free × (free.sub < items_of g Sb)) same (record { is_sub = has.is_sub; is_free = here }, has.inside)
@@ -93,7 +93,7 @@ module _ (g : Geom) (seen : SeenValue) (p : Parts) (reads : Reads g (look_of see
       chosen block (block-known b n block known.1) (first_room 0 block.rooms) refl known.2
       (λ none. rooms-full b subs (count + used_count block.rooms) total none rest)
     where
-      chosen : (block : SubBlock) → HasBlock g seen p n block → (r : Option ℕ) → first_room 0 block.rooms ≡ r → room_or n block r (room_from g seen p b subs) ≡ Ok None
+      chosen : (block : SubBlock) → HasBlock g seen p n block → (r : Option ℕ) → first_room 0 block.rooms ≡ r → or_later (option_map (free_at n block) r) (room_from g seen p b subs) ≡ Ok None
           → (room_from g seen p b subs ≡ Ok None → total ≡ count + used_count block.rooms + 4 * length subs) → total ≡ count + 4 * length (n ∷ subs)
       chosen block has None first found later =
           omega (arith, later found, first_room-full 0 block.rooms first, has.is_sub.four)
@@ -118,10 +118,39 @@ module _ (g : Geom) (seen : SeenValue) (p : Parts) (reads : Reads g (look_of see
       dir-kind x (Some kinds.File) e b is = absurd cc
       dir-kind x (Some kinds.Dir) e b is = ((let same : x ≡ b = cc in same), e)
 
+  -- that of another key of the same object, which is alive where it is in the same life
+  pub dir-beside : (key other : Key) (b : Body) → dir_of_key g seen p key ≡ Ok b → other.object ≡ key.object
+      → dir_of_key g seen p other ≡ (if b.birth == other.birth then Ok b else Err (Done endings.NoObject))
+  dir-beside key other b is same =
+      let whole = after-ok (body_of_key g seen p key) body_of_dir b is in
+      let inside = if-ok (nat_lt key.object (items_of g Fd)) _ _ whole.0 whole.1 in
+      let held = if-ok (has_lock seen key.object) (after (body_seen g seen p key.object) (body_alive key)) _ whole.0 inside.1 in
+      let read = after-ok (body_seen g seen p key.object) (body_alive key) whole.0 held.1 in
+      let alive = if-ok ((read.0.birth == key.birth) && is_some read.0.kind) (Ok read.0) _ whole.0 read.2 in
+      let one : read.0 ≡ whole.0 = cc in
+      let dir = dir-is whole.0 whole.0.kind refl whole.2 in
+      let body : body_seen g seen p key.object ≡ Ok b = read.1 ∙ ap Ok (one ∙ dir.0) in
+      ap (λ o. after (if nat_lt o (items_of g Fd) then (if has_lock seen o then after (body_seen g seen p o) (body_alive other) else Err (Lock o)) else Err (Done endings.NoObject)) body_of_dir) same
+      ∙ ap (λ t. after (if t then (if has_lock seen key.object then after (body_seen g seen p key.object) (body_alive other) else Err (Lock key.object)) else Err (Done endings.NoObject)) body_of_dir) inside.0
+      ∙ ap (λ t. after (if t then after (body_seen g seen p key.object) (body_alive other) else Err (Lock key.object)) body_of_dir) held.0
+      ∙ ap (λ r. after (after r (body_alive other)) body_of_dir) body
+      ∙ ap (λ t. after (if (b.birth == other.birth) && t then Ok b else Err (Done endings.NoObject)) body_of_dir) (ap is_some dir.1)
+      ∙ by (b.birth == other.birth) dir.1
+    where
+      dir-is : (x : Body) (kind : Option NodeKind) → x.kind ≡ kind → dir_by x kind ≡ Ok b → (x ≡ b) × (b.kind ≡ Some kinds.Dir)
+      dir-is x None e is = absurd cc
+      dir-is x (Some kinds.File) e is = absurd cc
+      dir-is x (Some kinds.Dir) e is = let same : x ≡ b = cc in (same, ap (λ (x : Body). x.kind) (sym same) ∙ e)
+
+      by : (t : Bool) → b.kind ≡ Some kinds.Dir
+          → after (if t && true then Ok b else Err (Done endings.NoObject)) body_of_dir ≡ (if t then Ok b else Err (Done endings.NoObject))
+      by true kind = ap (dir_by b) kind
+      by false kind = refl
+
   few-of : (count n : ℕ) → not_full count ≡ Ok n → count < 384
   few-of count n is = by (nat_le 384 count) refl is
     where
-      by : (test : Bool) → nat_le 384 count ≡ test → ◌≡◌ {A = Result ℕ Ask} (if test then Err (Done replies.DirFull) else Ok count) (Ok n) → count < 384
+      by : (test : Bool) → nat_le 384 count ≡ test → ◌≡◌ {A = Result ℕ Stop} (if test then Err (Done endings.DirFull) else Ok count) (Ok n) → count < 384
       by true e is = absurd cc
       by false e is = grind (arith, nat_tests, e)
 
@@ -136,6 +165,10 @@ module _ (g : Geom) (seen : SeenValue) (p : Parts) (reads : Reads g (look_of see
           → (found_in g seen p b name ≡ Ok None) × ((count : ℕ) × (count_in g seen p b ≡ Ok count) × (count < 384))
       by (Some f) e is = absurd cc
       by None e is = let counted = after-ok (count_in g seen p b) not_full n is in (e, (counted.0, counted.1, few-of counted.0 n counted.2))
+
+  -- a free room is known once the entries are
+  pub room-known : (b : Body) (name : List ℕ) (r : Option FreeRoom) → room_for g seen p b name ≡ Ok r → (n : ℕ) × (entries_before g seen p b name ≡ Ok n) × (room_in g seen p b ≡ Ok r)
+  room-known b name r is = after-ok (entries_before g seen p b name) (λ count. room_in g seen p b) r is
 
   -- a directory without a free room, which may get an entry, can grow
   pub can-grow : (b : Body) (name : List ℕ) (n : ℕ) → IsBody b → b.kind ≡ Some kinds.Dir → entries_before g seen p b name ≡ Ok n → room_in g seen p b ≡ Ok None → CanGrow b
@@ -170,13 +203,13 @@ room-place g seen p reads b (n ∷ subs) free is =
     let known = after-ok (sub_seen g seen p b n) _ (Some free) is in
     chosen known.0 (block-known g seen p reads b n known.0 known.1) (first_room 0 known.0.rooms) refl known.2 (room-place g seen p reads b subs free)
   where
-    chosen : (block : SubBlock) → HasBlock g seen p n block → (r : Option ℕ) → first_room 0 block.rooms ≡ r → room_or n block r (room_from g seen p b subs) ≡ Ok (Some free)
+    chosen : (block : SubBlock) → HasBlock g seen p n block → (r : Option ℕ) → first_room 0 block.rooms ≡ r → or_later (option_map (free_at n block) r) (room_from g seen p b subs) ≡ Ok (Some free)
         → (room_from g seen p b subs ≡ Ok (Some free) → HasRoom g seen p subs free) → HasRoom g seen p (n ∷ subs) free
     chosen block has None first found later =
         let rest = later found in
         record { place = suc rest.place; listed = rest.listed; has = rest.has; is_free = rest.is_free }
     chosen block has (Some room) first found later =
-        let same : record { sub = n; block = block; room = room } ≡ free = cc in
+        let same : free_at n block room ≡ free = cc in
         let at = first_room-free 0 block.rooms room first in
         let here : slice_get block.rooms room ≡ Some None = ap (slice_get block.rooms) (at.1 ∙ (let none : 0 + at.0 ≡ at.0 = omega arith in none)) ∙ at.2 in
         subst (HasRoom g seen p (n ∷ subs)) same (record { place = 0; listed = refl; has = has; is_free = here })

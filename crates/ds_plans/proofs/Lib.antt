@@ -5,6 +5,7 @@ pub mod Cleared
 pub mod DirLaws
 pub mod Dirs
 pub mod Finding
+pub mod Founds
 pub mod GivingSteps
 pub mod GivingWalk
 pub mod Going

@@ -22,8 +22,6 @@ use Rattle.ds_image.specs.Objects.{subs_by, subs_of}
 use Rattle.ds_image.specs.Parts.{Parts, part_at, maps_of}
 use Rattle.ds_image.specs.Readings.{Reads, SpellsBits}
 use Rattle.ds_image.specs.SeenValues.{SeenValue, has_lock, look_of}
-use Rattle.ds_image.specs.declared.asks.Ask.{Ask}
-use Rattle.ds_image.specs.declared.asks.Ask.TheVariants as asks
 use Rattle.ds_image.proofs.Decoded.{decoded_same}
 use Rattle.ds_image.proofs.Sizes.{body_is, part_within}
 use Rattle.ds_layout.specs.Places.{cluster_lock, place_sector}
@@ -37,12 +35,14 @@ use Rattle.ds_plans.specs.DirAsks.{dir_sectors}
 use Rattle.ds_plans.specs.Locks.{cluster_tried}
 use Rattle.ds_plans.specs.Steps.{after}
 use Rattle.ds_plans.proofs.Alike.{body_alike}
+use Rattle.ds_plans.specs.declared.stops.Stop.{Stop}
+use Rattle.ds_plans.specs.declared.stops.Stop.TheVariants as stops
 
 -- What was known stays known
 
-pub after-ok : {V W : Type 0} (r : Result V Ask) (next : V → Result W Ask) (w : W) → after r next ≡ Ok w → (v : V) × (r ≡ Ok v) × (next v ≡ Ok w)
+pub after-ok : {V W : Type 0} (r : Result V Stop) (next : V → Result W Stop) (w : W) → after r next ≡ Ok w → (v : V) × (r ≡ Ok v) × (next v ≡ Ok w)
 after-ok (Ok v) next w is = (v, refl, is)
-after-ok (Err ask) next w is = absurd cc
+after-ok (Err stop) next w is = absurd cc
 
 pub part-known : {V : Type 0} (at : ℕ) (look : Option Sector) (part : Option V) (v : V) → part_seen at look part ≡ Ok v → (s : Sector) × (look ≡ Some s) × (part ≡ Some v)
 part-known at None part v is = absurd cc
@@ -58,11 +58,11 @@ map_alike g look other p q kind cluster l same reads others =
     decoded_same (part_at (maps_of p kind) cluster) (part_at (maps_of q kind) cluster) (SpellsBits g look kind cluster) ((reads.maps kind).each cluster l)
     (subst (λ (x : Option Sector). IsDecoded (part_at (maps_of q kind) cluster) (Spells x)) (sym same) ((others.maps kind).each cluster l))
 
-pub if-ok : {V : Type 0} (test : Bool) (r : Result V Ask) (ask : Ask) (v : V) → (if test then r else Err ask) ≡ Ok v → (test ≡ true) × (r ≡ Ok v)
-if-ok true r ask v is = (refl, is)
-if-ok false r ask v is = absurd cc
+pub if-ok : {V : Type 0} (test : Bool) (r : Result V Stop) (stop : Stop) (v : V) → (if test then r else Err stop) ≡ Ok v → (test ≡ true) × (r ≡ Ok v)
+if-ok true r stop v is = (refl, is)
+if-ok false r stop v is = absurd cc
 
-item_or-stays : (cluster : ℕ) (map : Bitmap) (r : Option ℕ) (later other : Result (Option FreeItem) Ask) (free : FreeItem)
+item_or-stays : (cluster : ℕ) (map : Bitmap) (r : Option ℕ) (later other : Result (Option FreeItem) Stop) (free : FreeItem)
     → (later ≡ Ok (Some free) → other ≡ Ok (Some free)) → item_or cluster map r later ≡ Ok (Some free) → item_or cluster map r other ≡ Ok (Some free)
 item_or-stays cluster map None later other free stays is = stays is
 item_or-stays cluster map (Some item) later other free stays is = is
@@ -75,7 +75,7 @@ module _ (g : Geom) (slot : ℕ) (seen next : SeenValue) (p q : Parts) (is_geom 
       let known = part-known at (look_of seen at) (part_at (maps_of p kind) cluster) map held.1 in
       let there = grows.sectors at known.0 known.1 in
       let same = map_alike g (look_of seen) (look_of next) p q kind cluster l (known.1 ∙ sym there) reads reads' in
-      ap (λ b. if b then map_read g next q kind cluster else Err (asks.Lock (cluster_lock kind cluster))) (grows.locks (cluster_lock kind cluster) held.0)
+      ap (λ b. if b then map_read g next q kind cluster else Err (stops.Lock (cluster_lock kind cluster))) (grows.locks (cluster_lock kind cluster) held.0)
       ∙ ap (λ (o : Option Sector). part_seen at o (part_at (maps_of q kind) cluster)) there
       ∙ ap (part_seen at (Some known.0)) (sym same ∙ known.2)
 

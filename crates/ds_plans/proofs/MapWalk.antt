@@ -19,6 +19,7 @@ use Rattle.ds_plans.specs.Items.{map_read, map_seen}
 use Rattle.ds_plans.specs.PlanAsks.{PlanAsks, HasMap}
 use Rattle.ds_plans.proofs.Going.{goes-if, goes-part}
 use Rattle.ds_plans.proofs.Limits.{map_alike}
+use Rattle.ds_plans.specs.declared.stops.Stop.TheVariants as stops
 use Rattle.ds_tree.specs.declared.calls.CallOf.{CallOf}
 
 module _ (g : Geom) (slot : ℕ) (call : CallOf Key) (MayHold MayRead : SeenValue → Parts → ℕ → Type 0) (seen : SeenValue) (p : Parts) (reads : Reads g (look_of seen) p)
@@ -56,7 +57,7 @@ module _ (g : Geom) (slot : ℕ) (call : CallOf Key) (MayHold MayRead : SeenValu
   -- the bitmap is known, or what is asked for is good: the cluster's lock, or its sector
   pub map_goes : Goes Good (map_seen g seen p kind c) (HasMap g seen p kind c)
   map_goes =
-      goes-if Good (HasMap g seen p kind c) (has_lock seen (cluster_lock kind c)) (map_read g seen p kind c) (Err (asks.Lock (cluster_lock kind c)))
+      goes-if Good (HasMap g seen p kind c) (has_lock seen (cluster_lock kind c)) (map_read g seen p kind c) (Err (stops.Lock (cluster_lock kind c)))
       (λ held.
       goes-part Good (HasMap g seen p kind c) map_at (look_of seen map_at) (part_at (maps_of p kind) c) (unread_good held) odd_good
       (λ s map there is. record { inside = inside; held = held; read = ap is_some there; there = is; is_bits = (((reads.maps kind).each c inside map).0 is).0 }))

@@ -1,9 +1,9 @@
 -- A directory that may get an entry: what is asked for before it is known, and what the tree says of it.
-use Rattle.std.proofs.Common.{◌≡◌, ℕ, nat_eq, zero, suc, ◌+◌, ◌*◌, ◌<◌, true, false, nat_le, if◌then◌else◌, List, [], ◌∷◌, ◌++◌, length, Option, None, Some, inl, inr, refl, sym, ap, subst, ◌∙◌, arith, slice_get, is_some, length-append}
-use Rattle.std.specs.Prelude.{Result, Ok, Err, IsSome, bytes_eq, option_map}
+use Rattle.std.proofs.Common.{◌≡◌, ℕ, nat_eq, zero, suc, ◌+◌, ◌*◌, ◌<◌, true, false, nat_le, List, [], ◌∷◌, length, Option, None, Some, inl, refl, sym, ap, subst, ◌∙◌, arith, slice_get, is_some, length-append}
+use Rattle.std.specs.Prelude.{Result, Ok, Err, IsSome, option_map}
 use Rattle.std.specs.List.{list_any, filter_map, Contains}
 use Rattle.std.specs.FinMap as maps
-use Rattle.std.proofs.lemmas.Bool.{false≢true, cases_Bool}
+use Rattle.std.proofs.lemmas.Bool.{false≢true}
 use Rattle.std.proofs.lemmas.Bool.Decides.{nat_tests}
 use Rattle.ds_base.specs.Geometry.{items_of}
 use Rattle.ds_base.specs.declared.geometry.Geom.{Geom}
@@ -34,29 +34,34 @@ use Rattle.ds_plans.proofs.ItemWalk.{goes-known}
 use Rattle.ds_plans.proofs.Known.{block-known}
 use Rattle.ds_plans.proofs.Limits.{after-ok}
 use Rattle.ds_plans.specs.PlanAsks.{PlanAsks, HasWhole}
-use Rattle.ds_plans.specs.Rooms.{used_count, count_from, count_in, lacks_by, not_full, entries_before, first_room, room_or, room_from}
+use Rattle.ds_plans.specs.Rooms.{used_count, count_from, count_in, lacks_by, not_full, entries_before, free_in, room_from, room_in, room_for}
+use Rattle.ds_plans.specs.Stops.{ask_of}
 use Rattle.ds_plans.specs.declared.rooms.FreeRoom.{FreeRoom}
 use Rattle.ds_plans.specs.Bodies.{dir_of_key, sub_seen}
 use Rattle.ds_plans.specs.DirAsks.{dir_sectors, DirAsks}
 use Rattle.ds_plans.specs.DirSeen.{HasDir, HasSub, IsFoundIn, said_found, said_entry}
-use Rattle.ds_plans.specs.Entries.{entry_named, room_found, found_among, found_from, found_in}
+use Rattle.ds_plans.specs.Entries.{entry_named, named_among, found_at, found_from, found_in}
 use Rattle.ds_plans.specs.Goes.{Goes}
 use Rattle.ds_plans.specs.Locks.{MayLock, of_key, keys_of, TakesName}
-use Rattle.ds_plans.specs.Steps.{after}
+use Rattle.ds_plans.specs.Steps.{after, or_later}
 use Rattle.ds_plans.specs.declared.entries.Found.{Found}
+use Rattle.ds_plans.specs.declared.entries.Named.{Named}
 use Rattle.ds_plans.proofs.Alike.{sub_alike}
 use Rattle.ds_plans.proofs.Dirs.{dir_goes, dir_in}
-use Rattle.ds_plans.proofs.Finding.{find_goes, named-find, used_seen}
+use Rattle.ds_plans.proofs.Finding.{find_goes, named-find, none-among, used_seen}
 use Rattle.ds_plans.proofs.Going.{goes-after, goes-if}
+use Rattle.ds_plans.specs.declared.stops.Ending.TheVariants as endings
+use Rattle.ds_plans.specs.declared.stops.Stop.{Stop}
+use Rattle.ds_plans.specs.declared.stops.Stop.TheVariants as stops
 use Rattle.ds_tree.specs.Nodes.{Entries, Dir, File, FileTree, Object, node_of_key}
 use Rattle.ds_tree.specs.Steps.{Does}
 use Rattle.ds_tree.specs.declared.calls.CallOf.{CallOf}
 use Rattle.ds_tree.specs.declared.calls.TreeReply.TheVariants as replies
 
 -- what is good for one is good for the other
-pub goes-other : {V : Type 0} (Good Other : Ask → Type 0) (Is : V → Type 0) (r : Result V Ask) → ((ask : Ask) → Good ask → Other ask) → Goes Good r Is → Goes Other r Is
+pub goes-other : {V : Type 0} (Good Other : Ask → Type 0) (Is : V → Type 0) (r : Result V Stop) → ((ask : Ask) → Good ask → Other ask) → Goes Good r Is → Goes Other r Is
 goes-other Good Other Is (Ok v) each is = is
-goes-other Good Other Is (Err ask) each good = each ask good
+goes-other Good Other Is (Err stop) each good = each (ask_of stop) good
 
 -- what a planner asks for that reads one directory, which is that of a key of its call
 pub as-plan : (g : Geom) (slot : ℕ) (call : CallOf Key) (MayHold MayRead : SeenValue → Parts → ℕ → Type 0) (dir : Key) (seen : SeenValue) (p : Parts) → Contains (keys_of call) dir
@@ -74,91 +79,62 @@ as-plan g slot call MayHold MayRead dir seen p named may_hold may_read (asks.Wor
 as-plan g slot call MayHold MayRead dir seen p named may_hold may_read (asks.Done reply) is = is
 as-plan g slot call MayHold MayRead dir seen p named may_hold may_read (asks.Change redo reply) is = absurd is
 
--- Names that no room has
-
-among-none : (sub room : ℕ) (name : List ℕ) (r : Option Entry) (rooms : List (Option Entry)) → found_among sub room name (r ∷ rooms) ≡ None
-    → (room_found sub room name r ≡ None) × (found_among sub (suc room) name rooms ≡ None)
-among-none sub room name r rooms is = by (room_found sub room name r) refl is
-  where
-    by : (found : Option Found) → room_found sub room name r ≡ found
-        → (elim found as (λ _. Option Found) [ None ↦ found_among sub (suc room) name rooms | Some f ↦ Some f ]) ≡ None
-        → (room_found sub room name r ≡ None) × (found_among sub (suc room) name rooms ≡ None)
-    by None e is = (e, is)
-    by (Some f) e is = absurd cc
-
-entries-lack : (sub room : ℕ) (name : List ℕ) (rooms : List (Option Entry)) (others : List Entry) → found_among sub room name rooms ≡ None
-    → entry_named (filter_map (λ room. room) rooms ++ others) name ≡ entry_named others name
-entries-lack sub room name [] others none = refl
-entries-lack sub room name (None ∷ rooms) others none = entries-lack sub (suc room) name rooms others (among-none sub room name None rooms none).1
-entries-lack sub room name (Some e ∷ rooms) others none =
-    let both = among-none sub room name (Some e) rooms none in
-    elim (cases_Bool (bytes_eq name e.name)) [
-      | inl here ↦
-          let wrong : ◌≡◌ {A = Option Found} (Some (record { sub = sub; room = room; key = e.key; kind = e.kind })) None =
-          sym (ap (λ b. if b then Some (record { sub = sub; room = room; key = e.key; kind = e.kind }) else None) here) ∙ both.0 in
-          absurd cc
-      | inr other ↦
-          ap (λ b. if b then Some e else entry_named (filter_map (λ room. room) rooms ++ others) name) other
-          ∙ entries-lack sub (suc room) name rooms others both.1
-    ]
-
 -- where no name was found, all sub-blocks were seen
 module _ (g : Geom) (seen : SeenValue) (p : Parts) (reads : Reads g (look_of seen) p) (b : Body) (name : List ℕ) where
-  found-split : (before n : ℕ) (subs : List ℕ) → found_from g seen p b name before (n ∷ subs) ≡ Ok None
-      → (block : SubBlock) × (sub_seen g seen p b n ≡ Ok block) × (found_among before 0 name block.rooms ≡ None) × (found_from g seen p b name (suc before) subs ≡ Ok None)
-  found-split before n subs is =
+  found-split : (n : ℕ) (subs : List ℕ) → found_from g seen p b name (n ∷ subs) ≡ Ok None
+      → (block : SubBlock) × (sub_seen g seen p b n ≡ Ok block) × (named_among 0 name block.rooms ≡ None) × (found_from g seen p b name subs ≡ Ok None)
+  found-split n subs is =
       let known = after-ok (sub_seen g seen p b n) _ None is in
-      let rest = by known.0 (found_among before 0 name known.0.rooms) refl known.2 in
+      let rest = by known.0 (named_among 0 name known.0.rooms) refl known.2 in
       (known.0, known.1, rest.0, rest.1)
     where
-      by : (block : SubBlock) (found : Option Found) → found_among before 0 name block.rooms ≡ found
-          → ◌≡◌ {A = Result (Option Found) Ask} (elim found as (λ _. Result (Option Found) Ask) [ None ↦ found_from g seen p b name (suc before) subs | Some f ↦ Ok (Some f) ]) (Ok None)
-          → (found_among before 0 name block.rooms ≡ None) × (found_from g seen p b name (suc before) subs ≡ Ok None)
+      by : (block : SubBlock) (named : Option Named) → named_among 0 name block.rooms ≡ named → or_later (option_map (found_at n block) named) (found_from g seen p b name subs) ≡ Ok None
+          → (named_among 0 name block.rooms ≡ None) × (found_from g seen p b name subs ≡ Ok None)
       by block None e is = (e, is)
-      by block (Some f) e is = absurd cc
+      by block (Some x) e is = absurd cc
 
-  pub subs-known : (before : ℕ) (subs : List ℕ) → found_from g seen p b name before subs ≡ Ok None → (i n : ℕ) → slice_get subs i ≡ Some n → (block : SubBlock) × HasSub g seen p n block
-  subs-known before [] none i n at = absurd cc
-  subs-known before (m ∷ subs) none zero n at =
-      let split = found-split before m subs none in
+  pub subs-known : (subs : List ℕ) → found_from g seen p b name subs ≡ Ok None → (i n : ℕ) → slice_get subs i ≡ Some n → (block : SubBlock) × HasSub g seen p n block
+  subs-known [] none i n at = absurd cc
+  subs-known (m ∷ subs) none zero n at =
+      let split = found-split m subs none in
       let has = block-known g seen p reads b m split.0 split.1 in
       let same : m ≡ n = cc in
       (split.0, subst (λ k. HasSub g seen p k split.0) same (record { inside = has.inside; read = has.read; there = has.there }))
-  subs-known before (m ∷ subs) none (suc i) n at = subs-known (suc before) subs (found-split before m subs none).3 i n at
+  subs-known (m ∷ subs) none (suc i) n at = subs-known subs (found-split m subs none).3 i n at
 
-  pub names-lack : (before : ℕ) (subs : List ℕ) → found_from g seen p b name before subs ≡ Ok None → entry_named (used_rooms p subs) name ≡ None
-  names-lack before [] none = refl
-  names-lack before (n ∷ subs) none =
-      let split = found-split before n subs none in
+  pub names-lack : (subs : List ℕ) → found_from g seen p b name subs ≡ Ok None → entry_named (used_rooms p subs) name ≡ None
+  names-lack [] none = refl
+  names-lack (n ∷ subs) none =
+      let split = found-split n subs none in
       let has = block-known g seen p reads b n split.0 split.1 in
       ap (λ es. entry_named es name) (used_seen p n split.0 subs has.there)
-      ∙ entries-lack before 0 name split.0.rooms (used_rooms p subs) split.2 ∙ names-lack (suc before) subs split.3
+      ∙ none-among 0 name split.0.rooms (used_rooms p subs) split.2 ∙ names-lack subs split.3
 
   -- and their used rooms can be counted
-  pub counts-known : (before count : ℕ) (subs : List ℕ) → found_from g seen p b name before subs ≡ Ok None → count_from g seen p b count subs ≡ Ok (count + length (used_rooms p subs))
-  counts-known before count [] none = ap Ok (let same : count ≡ count + 0 = omega arith in same)
-  counts-known before count (n ∷ subs) none =
-      let split = found-split before n subs none in
+  pub counts-known : (count : ℕ) (subs : List ℕ) → found_from g seen p b name subs ≡ Ok None → count_from g seen p b count subs ≡ Ok (count + length (used_rooms p subs))
+  counts-known count [] none = ap Ok (let same : count ≡ count + 0 = omega arith in same)
+  counts-known count (n ∷ subs) none =
+      let split = found-split n subs none in
       let block = split.0 in
       let has = block-known g seen p reads b n block split.1 in
       let total : count + used_count block.rooms + length (used_rooms p subs) ≡ count + length (used_rooms p (n ∷ subs)) =
       omega (arith, ap (length {A = Entry}) (used_seen p n block subs has.there), length-append (filter_map (λ room. room) block.rooms) (used_rooms p subs)) in
       ap (λ r. after r (λ (block : SubBlock). count_from g seen p b (count + used_count block.rooms) subs)) split.1
-      ∙ counts-known (suc before) (count + used_count block.rooms) subs split.3 ∙ ap Ok total
+      ∙ counts-known (count + used_count block.rooms) subs split.3 ∙ ap Ok total
 
   -- and a free room be looked for
-  pub rooms-known : (before : ℕ) (subs : List ℕ) → found_from g seen p b name before subs ≡ Ok None → (r : Option FreeRoom) × (room_from g seen p b subs ≡ Ok r)
-  rooms-known before [] none = (None, refl)
-  rooms-known before (n ∷ subs) none =
-      let split = found-split before n subs none in
+  pub rooms-known : (subs : List ℕ) → found_from g seen p b name subs ≡ Ok None → (r : Option FreeRoom) × (room_from g seen p b subs ≡ Ok r)
+  rooms-known [] none = (None, refl)
+  rooms-known (n ∷ subs) none =
+      let split = found-split n subs none in
       let block = split.0 in
-      let rest = rooms-known (suc before) subs split.3 in
-      let here = by block (first_room 0 block.rooms) rest.0 rest.1 in
-      (here.0, ap (λ r. after r (λ (block : SubBlock). room_or n block (first_room 0 block.rooms) (room_from g seen p b subs))) split.1 ∙ here.1)
+      let rest = rooms-known subs split.3 in
+      let here = by (free_in n block) rest.0 rest.1 in
+      (here.0, ap (λ r. after r (λ (block : SubBlock). or_later (free_in n block) (room_from g seen p b subs))) split.1 ∙ here.1)
     where
-      by : (block : SubBlock) (room : Option ℕ) (r : Option FreeRoom) → room_from g seen p b subs ≡ Ok r → (r : Option FreeRoom) × (room_or n block room (room_from g seen p b subs) ≡ Ok r)
-      by block None r is = (r, is)
-      by block (Some room) r is = (Some (record { sub = n; block = block; room = room }), refl)
+      by : (free r : Option FreeRoom) → room_from g seen p b subs ≡ Ok r → (r : Option FreeRoom) × (or_later free (room_from g seen p b subs) ≡ Ok r)
+      by None r is = (r, is)
+      by (Some free) r is = (Some free, refl)
 
 -- What the tree says
 
@@ -269,15 +245,24 @@ module _ (g : Geom) (slot : ℕ) (call : CallOf Key) (MayHold MayRead : SeenValu
           → Goes (PlanAsks g slot call MayHold MayRead seen p) (lacks_by found (after (count_in g seen p b) not_full)) (λ count. HasWhole g seen p dir name b × (found_in g seen p b name ≡ Ok None))
       ended (Some f) is e = exists_good f is
       ended None is e =
-          let all = subs-known g seen p reads b name 0 (subs_of (Some b)) e in
-          let lacks = names-lack g seen p reads b name 0 (subs_of (Some b)) e in
+          let all = subs-known g seen p reads b name (subs_of (Some b)) e in
+          let lacks = names-lack g seen p reads b name (subs_of (Some b)) e in
           let count = length (used_rooms p (subs_of (Some b))) in
-          let counted : count_in g seen p b ≡ Ok count = counts-known g seen p reads b name 0 0 (subs_of (Some b)) e ∙ ap Ok (let none : 0 + count ≡ count = omega arith in none) in
+          let counted : count_in g seen p b ≡ Ok count = counts-known g seen p reads b name 0 (subs_of (Some b)) e ∙ ap Ok (let none : 0 + count ≡ count = omega arith in none) in
           let Then : ℕ → Type 0 = λ count. HasWhole g seen p dir name b × (found_in g seen p b name ≡ Ok None) in
           subst (λ r. Goes (PlanAsks g slot call MayHold MayRead seen p) (after r not_full) Then) (sym counted)
-          (goes-if (PlanAsks g slot call MayHold MayRead seen p) Then (nat_le 384 count) (Err (asks.Done replies.DirFull)) (Ok count)
+          (goes-if (PlanAsks g slot call MayHold MayRead seen p) Then (nat_le 384 count) (Err (stops.Done endings.DirFull)) (Ok count)
           (full_good all lacks)
           (λ few. (record { has = has; subs = all; lacks = lacks; few = grind (arith, nat_tests, few) }, e)))
+
+  -- and so are its free rooms
+  pub room_goes : Goes Good (room_for g seen p b name) (λ r. HasWhole g seen p dir name b × (found_in g seen p b name ≡ Ok None) × (room_in g seen p b ≡ Ok r))
+  room_goes =
+      let Then : Option FreeRoom → Type 0 = λ r. HasWhole g seen p dir name b × (found_in g seen p b name ≡ Ok None) × (room_in g seen p b ≡ Ok r) in
+      goes-after Good Whole Then (entries_before g seen p b name) _ whole_goes
+      (λ count is.
+      let known = rooms-known g seen p reads b name listed is.1 in
+      subst (λ r. Goes Good r Then) (sym known.1) (is.0, is.1, known.1))
 
 -- the directory itself is known, or what is asked for is good
 pub dir_known-goes : (g : Geom) (slot : ℕ) (call : CallOf Key) (MayHold MayRead : SeenValue → Parts → ℕ → Type 0) (dir : Key) (seen : SeenValue) (p : Parts) → Reads g (look_of seen) p

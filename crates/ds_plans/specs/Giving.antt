@@ -9,13 +9,13 @@ use Rattle.ds_image.specs.Owns.{bit}
 use Rattle.ds_image.specs.Parts.{Parts}
 use Rattle.ds_image.specs.Pending.{Pair}
 use Rattle.ds_image.specs.SeenValues.{SeenValue}
-use Rattle.ds_image.specs.declared.asks.Ask.{Ask}
-use Rattle.ds_image.specs.declared.asks.Ask.TheVariants.{Odd}
 use Rattle.ds_jrnl.specs.declared.redo.Redo.{Redo}
 use Rattle.ds_layout.specs.Places.{place_sector}
 use Rattle.ds_layout.specs.declared.places.Place.TheVariants as places
 use Rattle.ds_plans.specs.Items.{map_seen}
 use Rattle.ds_plans.specs.Steps.{after}
+use Rattle.ds_plans.specs.declared.stops.Stop.{Stop}
+use Rattle.ds_plans.specs.declared.stops.Stop.TheVariants.{Odd}
 
 -- the bitmaps of clusters, by the numbers of the clusters
 abbrev pub Maps : Type 0
@@ -42,17 +42,17 @@ map_without g kind cluster (n ∷ items) map =
     else map_without g kind cluster items map
 
 -- a bitmap that was read is odd where items of it can't be given up
-abbrev pub or_odd : ℕ → Option Bitmap → Result Bitmap Ask
+abbrev pub or_odd : ℕ → Option Bitmap → Result Bitmap Stop
 or_odd at None = Err (Odd at)
 or_odd at (Some map) = Ok map
 
 -- the bitmap of a cluster without the items, once the cluster was locked and its bitmap read
-abbrev pub map_left : Geom → SeenValue → Parts → Kind → ℕ → List ℕ → Result Bitmap Ask
+abbrev pub map_left : Geom → SeenValue → Parts → Kind → ℕ → List ℕ → Result Bitmap Stop
 map_left g seen p kind cluster items =
     after (map_seen g seen p kind cluster) (λ map. or_odd (place_sector g (places.Bitmap kind cluster)) (map_without g kind cluster items map))
 
 -- those of the clusters from this one on, of which so many are left, in which some of the items are
-abbrev pub maps_from : Geom → SeenValue → Parts → Kind → List ℕ → ℕ → ℕ → Result Maps Ask
+abbrev pub maps_from : Geom → SeenValue → Parts → Kind → List ℕ → ℕ → ℕ → Result Maps Stop
 maps_from g seen p kind items cluster zero = Ok []
 maps_from g seen p kind items cluster (suc left) =
     if is_touched g kind cluster items
@@ -62,7 +62,7 @@ maps_from g seen p kind items cluster (suc left) =
 
 -- the bitmaps of a kind without these items, of the clusters in which some of them are; where one of them is none of the volume
 -- the sector that lists them is odd
-abbrev pub maps_left : Geom → SeenValue → Parts → Kind → List ℕ → ℕ → Result Maps Ask
+abbrev pub maps_left : Geom → SeenValue → Parts → Kind → List ℕ → ℕ → Result Maps Stop
 maps_left g seen p kind items listed =
     if some_outside g kind items then Err (Odd listed) else maps_from g seen p kind items 0 (clusters_of g kind)
 
@@ -77,5 +77,5 @@ map_sectors g kind maps = map (map_sector g kind) maps
 abbrev pub with_maps_left : Geom → Kind → Redo → Maps → Redo
 with_maps_left g kind redo maps = record { pairs = record { items = redo.pairs.items ++ map_sectors g kind maps } }
 
-abbrev pub given_up : Geom → SeenValue → Parts → Kind → List ℕ → ℕ → Redo → Result Redo Ask
+abbrev pub given_up : Geom → SeenValue → Parts → Kind → List ℕ → ℕ → Redo → Result Redo Stop
 given_up g seen p kind items listed redo = after (maps_left g seen p kind items listed) (λ maps. Ok (with_maps_left g kind redo maps))

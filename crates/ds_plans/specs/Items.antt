@@ -6,15 +6,15 @@ use Rattle.ds_base.specs.declared.geometry.Kind.{Kind}
 use Rattle.ds_bitmap.specs.Bits.{Bitmap, IsBits}
 use Rattle.ds_image.specs.Parts.{Parts, part_at, maps_of}
 use Rattle.ds_image.specs.SeenValues.{SeenValue, has_lock, look_of}
-use Rattle.ds_image.specs.declared.asks.Ask.{Ask}
-use Rattle.ds_image.specs.declared.asks.Ask.TheVariants.{Lock, Done}
 use Rattle.ds_layout.specs.Places.{cluster_lock, place_sector}
 use Rattle.ds_layout.specs.declared.places.Place.TheVariants as places
 use Rattle.ds_plans.specs.declared.items.FreeItem.{FreeItem}
 use Rattle.ds_plans.specs.Bodies.{part_seen}
 use Rattle.ds_plans.specs.Locks.{cluster_tried}
 use Rattle.ds_plans.specs.Steps.{after}
-use Rattle.ds_tree.specs.declared.calls.TreeReply.TheVariants as replies
+use Rattle.ds_plans.specs.declared.stops.Ending.TheVariants as endings
+use Rattle.ds_plans.specs.declared.stops.Stop.{Stop}
+use Rattle.ds_plans.specs.declared.stops.Stop.TheVariants.{Lock, Done}
 
 -- the least item that is not used
 abbrev pub first_clear : List Bool → Option ℕ
@@ -23,37 +23,37 @@ first_clear (false ∷ used) = Some 0
 first_clear (true ∷ used) = option_map suc (first_clear used)
 
 -- the bitmap of a cluster, once it was read
-abbrev pub map_read : Geom → SeenValue → Parts → Kind → ℕ → Result Bitmap Ask
+abbrev pub map_read : Geom → SeenValue → Parts → Kind → ℕ → Result Bitmap Stop
 map_read g seen p kind cluster =
     part_seen (place_sector g (places.Bitmap kind cluster)) (look_of seen (place_sector g (places.Bitmap kind cluster))) (part_at (maps_of p kind) cluster)
 
 -- and once the cluster was locked
-abbrev pub map_seen : Geom → SeenValue → Parts → Kind → ℕ → Result Bitmap Ask
+abbrev pub map_seen : Geom → SeenValue → Parts → Kind → ℕ → Result Bitmap Stop
 map_seen g seen p kind cluster =
     if has_lock seen (cluster_lock kind cluster) then map_read g seen p kind cluster else Err (Lock (cluster_lock kind cluster))
 
 -- the least free item of this cluster, or else what there is in those that are tried after it
-abbrev pub item_or : ℕ → Bitmap → Option ℕ → Result (Option FreeItem) Ask → Result (Option FreeItem) Ask
+abbrev pub item_or : ℕ → Bitmap → Option ℕ → Result (Option FreeItem) Stop → Result (Option FreeItem) Stop
 item_or cluster map None later = later
 item_or cluster map (Some item) later = Ok (Some (record { cluster = cluster; item = item; map = map }))
 
 -- the first free item in the clusters that are tried after so many, of which so many are left
-abbrev pub item_from : Geom → ℕ → SeenValue → Parts → Kind → ℕ → ℕ → Result (Option FreeItem) Ask
+abbrev pub item_from : Geom → ℕ → SeenValue → Parts → Kind → ℕ → ℕ → Result (Option FreeItem) Stop
 item_from g slot seen p kind tried zero = Ok None
 item_from g slot seen p kind tried (suc left) =
     after (map_seen g seen p kind (cluster_tried g slot kind tried))
     (λ map. item_or (cluster_tried g slot kind tried) map (first_clear map.used) (item_from g slot seen p kind (suc tried) left))
 
 -- the first free item of a kind, by the order in which a host with this slot tries the clusters
-abbrev pub free_item : Geom → ℕ → SeenValue → Parts → Kind → Result (Option FreeItem) Ask
+abbrev pub free_item : Geom → ℕ → SeenValue → Parts → Kind → Result (Option FreeItem) Stop
 free_item g slot seen p kind = item_from g slot seen p kind 0 (clusters_of g kind)
 
 -- an item that is wanted: without one there is no space
-abbrev pub wanted_by : Kind → Option FreeItem → Result FreeItem Ask
-wanted_by kind None = Err (Done (replies.NoSpace kind))
+abbrev pub wanted_by : Kind → Option FreeItem → Result FreeItem Stop
+wanted_by kind None = Err (Done (endings.NoSpace kind))
 wanted_by kind (Some free) = Ok free
 
-abbrev pub wanted_item : Geom → ℕ → SeenValue → Parts → Kind → Result FreeItem Ask
+abbrev pub wanted_item : Geom → ℕ → SeenValue → Parts → Kind → Result FreeItem Stop
 wanted_item g slot seen p kind = after (free_item g slot seen p kind) (wanted_by kind)
 
 -- a free item, with the bitmap of its cluster

@@ -8,6 +8,8 @@ pub mod Items
 pub mod Locks
 pub mod Objects
 pub mod PlanAsks
+pub mod Pointers
 pub mod Redos
 pub mod Rooms
 pub mod Steps
+pub mod Stops

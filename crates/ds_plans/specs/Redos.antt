@@ -13,6 +13,7 @@ use Rattle.ds_jrnl.specs.declared.redo.Redo.{Redo}
 use Rattle.ds_layout.specs.Places.{place_sector}
 use Rattle.ds_layout.specs.declared.places.Place.TheVariants as places
 use Rattle.ds_plans.specs.Items.{map_taken}
+use Rattle.ds_plans.specs.declared.entries.Found.{Found}
 use Rattle.ds_plans.specs.declared.items.FreeItem.{FreeItem}
 use Rattle.ds_plans.specs.declared.rooms.FreeRoom.{FreeRoom}
 
@@ -26,6 +27,10 @@ block_filled free e = record { rooms = slice_set free.block.rooms free.room (Som
 
 abbrev pub block_alone : Entry → SubBlock
 block_alone e = record { rooms = Some e ∷ None ∷ None ∷ None ∷ [] }
+
+-- the sub-block of an entry without the entry
+abbrev pub block_emptied : Found → SubBlock
+block_emptied found = record { rooms = slice_set found.block.rooms found.room None }
 
 -- sectors that are written, each with its number
 abbrev pub map_pair : Geom → Kind → FreeItem → Pair

@@ -8,9 +8,10 @@ ghost use Rattle.ds_image.specs.SeenValues.{look_of};
 ghost use Rattle.ds_plans.specs.Giving.{given_up, is_touched, map_left, map_without, some_outside};
 
 use crate::items::{clusters, map_seen};
+use crate::stops::Stop;
 use ds_base::{Geom, Kind, SectorNo};
 use ds_bitmap::Bits;
-use ds_image::{Ask, Seen};
+use ds_image::Seen;
 use ds_jrnl::Redo;
 use ds_layout::{Place, sector_of};
 
@@ -24,7 +25,7 @@ pub fn give_up(
     items: &[u32],
     listed: SectorNo,
     redo: Redo,
-) -> Result<Redo, Ask>
+) -> Result<Redo, Stop>
     requires geom { IsGeom geom.now }
     requires room { length redo.pairs.items ≤ 23 }
     ensures answer { (p : Parts) → Reads geom.now (look_of seen.now) p
@@ -32,7 +33,7 @@ pub fn give_up(
     ensures few { IfOk result (λ r. length r.pairs.items ≤ length redo.pairs.items + 8) }
 {
     if some_outside(geom, kind, items) {
-        return Err(Ask::Odd(listed));
+        return Err(Stop::Odd(listed));
     }
     let mut written = redo;
     for cluster in 0..clusters(geom, kind) {
@@ -72,7 +73,7 @@ fn is_touched(geom: &Geom, kind: Kind, cluster: u8, items: &[u32]) -> bool
 }
 
 /// The bitmap of a cluster without the items.
-fn map_left(geom: &Geom, seen: &Seen, kind: Kind, cluster: u8, items: &[u32]) -> Result<Bits, Ask>
+fn map_left(geom: &Geom, seen: &Seen, kind: Kind, cluster: u8, items: &[u32]) -> Result<Bits, Stop>
     requires geom { IsGeom geom.now }
     requires inside { cluster < clusters_of geom.now kind }
     ensures { (p : Parts) → Reads geom.now (look_of seen.now) p
@@ -81,7 +82,7 @@ fn map_left(geom: &Geom, seen: &Seen, kind: Kind, cluster: u8, items: &[u32]) ->
     let map = map_seen(geom, seen, kind, cluster)?;
     match map_without(geom, kind, cluster, items, map) {
         Some(left) => Ok(left),
-        None => Err(Ask::Odd(sector_of(geom, &Place::Bitmap { kind, cluster }))),
+        None => Err(Stop::Odd(sector_of(geom, &Place::Bitmap { kind, cluster }))),
     }
 }
 

@@ -9,11 +9,11 @@ ghost use Rattle.ds_layout.specs.Places.{cluster_lock};
 ghost use Rattle.ds_plans.specs.Items.{IsFreeItem, first_clear, free_item, map_read, map_seen, number_of, wanted_item};
 ghost use Rattle.ds_plans.specs.Locks.{cluster_tried};
 
+use crate::stops::{Ending, Stop};
 use ds_base::{Geom, Kind, ObjNo, SlotNo};
 use ds_bitmap::Bits;
-use ds_image::{Ask, Seen};
+use ds_image::Seen;
 use ds_layout::{Place, sector_of};
-use ds_tree::TreeReply;
 
 /// A free item: its cluster, its place there, and the cluster's bitmap.
 #[derive(Drop)]
@@ -24,7 +24,7 @@ pub struct FreeItem {
 }
 
 /// A free item of a kind that a call needs; otherwise what a planner asks for, or answers, before it knows one.
-pub fn wanted_item(geom: &Geom, seen: &Seen, kind: Kind, slot: SlotNo) -> Result<FreeItem, Ask>
+pub fn wanted_item(geom: &Geom, seen: &Seen, kind: Kind, slot: SlotNo) -> Result<FreeItem, Stop>
     requires { IsGeom geom.now }
     ensures answer { (p : Parts) → Reads geom.now (look_of seen.now) p
         → result ≡ wanted_item geom.now slot seen.now p kind }
@@ -32,12 +32,12 @@ pub fn wanted_item(geom: &Geom, seen: &Seen, kind: Kind, slot: SlotNo) -> Result
 {
     match free_item(geom, seen, kind, slot)? {
         Some(free) => Ok(free),
-        None => Err(Ask::Done(TreeReply::NoSpace { kind })),
+        None => Err(Stop::Done(Ending::NoSpace { kind })),
     }
 }
 
 /// The first free item of a kind: clusters are tried from the slot's number on, and round, and in a cluster the lowest is taken.
-fn free_item(geom: &Geom, seen: &Seen, kind: Kind, slot: SlotNo) -> Result<Option<FreeItem>, Ask>
+fn free_item(geom: &Geom, seen: &Seen, kind: Kind, slot: SlotNo) -> Result<Option<FreeItem>, Stop>
     requires { IsGeom geom.now }
     ensures answer { (p : Parts) → Reads geom.now (look_of seen.now) p
         → result ≡ free_item geom.now slot seen.now p kind }
@@ -60,7 +60,7 @@ fn first_free(map: &Bits) -> Option<u16>
 }
 
 /// The bitmap of a cluster.
-pub fn map_seen(geom: &Geom, seen: &Seen, kind: Kind, cluster: u8) -> Result<Bits, Ask>
+pub fn map_seen(geom: &Geom, seen: &Seen, kind: Kind, cluster: u8) -> Result<Bits, Stop>
     requires geom { IsGeom geom.now }
     requires inside { cluster < clusters_of geom.now kind }
     ensures answer { (p : Parts) → Reads geom.now (look_of seen.now) p
@@ -69,13 +69,13 @@ pub fn map_seen(geom: &Geom, seen: &Seen, kind: Kind, cluster: u8) -> Result<Bit
 {
     let lock = cluster_lock(kind, cluster);
     if !seen.has_lock(lock) {
-        return Err(Ask::Lock(lock));
+        return Err(Stop::Lock(lock));
     }
     map_read(geom, seen, kind, cluster)
 }
 
 /// What the sector of a cluster's bitmap spells.
-pub fn map_read(geom: &Geom, seen: &Seen, kind: Kind, cluster: u8) -> Result<Bits, Ask>
+pub fn map_read(geom: &Geom, seen: &Seen, kind: Kind, cluster: u8) -> Result<Bits, Stop>
     requires geom { IsGeom geom.now }
     requires inside { cluster < clusters_of geom.now kind }
     ensures answer { (p : Parts) → Reads geom.now (look_of seen.now) p
@@ -84,11 +84,11 @@ pub fn map_read(geom: &Geom, seen: &Seen, kind: Kind, cluster: u8) -> Result<Bit
 {
     let at = sector_of(geom, &Place::Bitmap { kind, cluster });
     let Some(sector) = seen.sector(at) else {
-        return Err(Ask::Read(at));
+        return Err(Stop::Read(at));
     };
     match Bits::decode(geom, kind, cluster, sector) {
         Some(map) => Ok(map),
-        None => Err(Ask::Odd(at)),
+        None => Err(Stop::Odd(at)),
     }
 }
 

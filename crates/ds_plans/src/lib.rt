@@ -6,14 +6,22 @@ mod bodies;
 mod entries;
 mod giving;
 mod items;
+mod names;
 mod pairs;
+mod pointers;
 mod rooms;
+mod stops;
 
 pub use bodies::{body_of_key, body_seen, dir_of_key, sub_block};
-pub use entries::{Found, find, subs_of};
+pub use entries::{Found, Named, find, found_among, named_among, subs_of, wanted_entry};
 pub use giving::give_up;
 pub use items::{
     FreeItem, cluster_lock, cluster_tried, clusters, map_read, map_seen, number_of, wanted_item,
 };
-pub use pairs::{block_alone, block_filled, body_grown, body_pair, map_pair, sub_pair};
-pub use rooms::{FreeRoom, count_in, entries_before, free_room};
+pub use names::{copy_of, name_of};
+pub use pairs::{
+    block_alone, block_emptied, block_filled, body_grown, body_pair, map_pair, sub_pair,
+};
+pub use pointers::{pointer_block, pointer_blocks};
+pub use rooms::{FreeRoom, room_for};
+pub use stops::{Ending, Stop};

@@ -5,9 +5,10 @@ ghost use Rattle.ds_base.specs.declared.geometry.Kind.TheVariants.{Fd, Sb};
 ghost use Rattle.ds_dir.specs.SubBlock.{IsEntry, IsSubBlock};
 ghost use Rattle.ds_fd.specs.Body.{IsBody};
 ghost use Rattle.ds_plans.specs.Items.{IsFreeItem};
-ghost use Rattle.ds_plans.specs.Objects.{CanGrow, IsFreeRoom};
-ghost use Rattle.ds_plans.specs.Redos.{block_alone, block_filled, body_grown, body_pair, map_pair, sub_pair};
+ghost use Rattle.ds_plans.specs.Objects.{CanGrow, IsFoundRoom, IsFreeRoom};
+ghost use Rattle.ds_plans.specs.Redos.{block_alone, block_emptied, block_filled, body_grown, body_pair, map_pair, sub_pair};
 
+use crate::entries::Found;
 use crate::items::FreeItem;
 use crate::rooms::FreeRoom;
 use ds_base::{Geom, Kind, Sector, SectorNo};
@@ -81,5 +82,16 @@ pub fn block_alone(entry: Entry) -> SubBlock
     ensures is_sub { IsSubBlock result }
 {
     let rooms = [Some(entry), None, None, None];
+    SubBlock { rooms }
+}
+
+/// The sub-block of an entry, without the entry.
+pub fn block_emptied(found: Found) -> SubBlock
+    requires { IsFoundRoom found }
+    ensures emptied { result ≡ block_emptied found }
+    ensures is_sub { IsSubBlock result }
+{
+    let mut rooms = found.block.rooms;
+    rooms[found.room] = None;
     SubBlock { rooms }
 }

@@ -1,19 +1,19 @@
 //! Rooms of a directory.
-ghost use Rattle.std.specs.Prelude.{◌≡◌, ◌<◌, ◌≤◌, length};
+ghost use Rattle.std.specs.Prelude.{◌≡◌, ◌<◌, ◌≤◌};
 ghost use Rattle.ds_base.specs.Geometry.{IsGeom, items_of};
 ghost use Rattle.ds_base.specs.declared.geometry.Kind.TheVariants.{Fd};
 ghost use Rattle.ds_image.specs.Parts.{Parts};
 ghost use Rattle.ds_image.specs.Readings.{Reads};
 ghost use Rattle.ds_image.specs.SeenValues.{look_of};
-ghost use Rattle.ds_plans.specs.Rooms.{count_in, entries_before, first_room, room_in, used_count};
+ghost use Rattle.ds_plans.specs.Rooms.{first_room, free_in, room_for, used_count};
 
 use crate::bodies::sub_block;
-use crate::entries::{find, subs_of};
+use crate::entries::{named_among, subs_of};
+use crate::stops::{Ending, Stop};
 use ds_base::{Geom, Name};
 use ds_dir::{Entry, SubBlock};
 use ds_fd::Body;
-use ds_image::{Ask, Seen};
-use ds_tree::TreeReply;
+use ds_image::Seen;
 
 /// A free room of a directory: the number of its sub-block, the sub-block, and the room's place there.
 #[derive(Drop)]
@@ -23,36 +23,29 @@ pub struct FreeRoom {
     pub room: usize,
 }
 
-/// The number of entries of a directory that may get one of this name; otherwise what a planner asks for, or answers, before it
-/// knows that it may.
-pub fn entries_before(geom: &Geom, seen: &Seen, dir: &Body, name: &Name) -> Result<u32, Ask>
+/// The first free room of a directory that may get an entry of a name, none where all its rooms are used; otherwise what a planner
+/// asks for, or answers, before it knows that the directory may. Each sub-block is read once.
+pub fn room_for(geom: &Geom, seen: &Seen, dir: &Body, name: &Name) -> Result<Option<FreeRoom>, Stop>
     requires geom { IsGeom geom.now }
     requires inside { dir.now.object < items_of geom.now Fd }
-    ensures { (p : Parts) → Reads geom.now (look_of seen.now) p
-        → result ≡ entries_before geom.now seen.now p dir.now name.now }
-{
-    if find(geom, seen, dir, name)?.is_some() {
-        return Err(Ask::Done(TreeReply::Exists));
-    }
-    let count = count_in(geom, seen, dir)?;
-    if count >= 384 {
-        return Err(Ask::Done(TreeReply::DirFull));
-    }
-    Ok(count)
-}
-
-/// The number of used rooms of a directory.
-pub fn count_in(geom: &Geom, seen: &Seen, dir: &Body) -> Result<u32, Ask>
-    requires geom { IsGeom geom.now }
-    requires inside { dir.now.object < items_of geom.now Fd }
-    ensures { (p : Parts) → Reads geom.now (look_of seen.now) p → result ≡ count_in geom.now seen.now p dir.now }
+    ensures { (p : Parts) → Reads geom.now (look_of seen.now) p → result ≡ room_for geom.now seen.now p dir.now name.now }
 {
     let mut count = 0;
+    let mut free = None;
     for number in subs_of(dir) {
         let block = sub_block(geom, seen, dir, *number)?;
+        if named_among(&block.rooms, name).is_some() {
+            return Err(Stop::Done(Ending::Exists));
+        }
         count += used_count(&block.rooms);
+        if free.is_none() {
+            free = free_in(*number, block);
+        }
     }
-    Ok(count)
+    if count >= 384 {
+        return Err(Stop::Done(Ending::DirFull));
+    }
+    Ok(free)
 }
 
 fn used_count(rooms: &[Option<Entry>; 4]) -> u32
@@ -68,23 +61,12 @@ fn used_count(rooms: &[Option<Entry>; 4]) -> u32
     count
 }
 
-/// The first free room of a directory.
-pub fn free_room(geom: &Geom, seen: &Seen, dir: &Body) -> Result<Option<FreeRoom>, Ask>
-    requires geom { IsGeom geom.now }
-    requires inside { dir.now.object < items_of geom.now Fd }
-    ensures { (p : Parts) → Reads geom.now (look_of seen.now) p → result ≡ room_in geom.now seen.now p dir.now }
+/// The first free room of a sub-block.
+fn free_in(sub: u32, block: SubBlock) -> Option<FreeRoom>
+    ensures { result ≡ free_in sub block }
 {
-    for number in subs_of(dir) {
-        let block = sub_block(geom, seen, dir, *number)?;
-        if let Some(room) = first_room(&block.rooms) {
-            return Ok(Some(FreeRoom {
-                sub: *number,
-                block,
-                room,
-            }));
-        }
-    }
-    Ok(None)
+    let room = first_room(&block.rooms)?;
+    Some(FreeRoom { sub, block, room })
 }
 
 fn first_room(rooms: &[Option<Entry>]) -> Option<usize>

@@ -1,17 +1,16 @@
 -- A planner that reads what an object lists that goes asks for what it may.
-use Rattle.std.proofs.Common.{◌≡◌, ℕ, zero, suc, ◌+◌, ◌*◌, ◌/◌, ◌<◌, ◌≤◌, ◌||◌, Bool, true, false, nat_eq, nat_le, nat_lt, if◌then◌else◌, List, [], ◌∷◌, ◌++◌, length, take, map, Option, None, Some, inl, refl, sym, ap, subst, ◌∙◌, arith, slice_get, is_some, append_assoc, append-nil, length-append}
-use Rattle.std.specs.Prelude.{Result, Ok, Err, IsSome}
+use Rattle.std.proofs.Common.{◌≡◌, ℕ, zero, suc, ◌+◌, ◌*◌, ◌/◌, ◌<◌, Bool, true, false, nat_eq, nat_le, nat_lt, if◌then◌else◌, List, [], ◌∷◌, ◌++◌, length, take, map, Option, None, Some, inl, refl, sym, ap, subst, ◌∙◌, arith, slice_get, is_some, append_assoc, append-nil, length-append}
+use Rattle.std.specs.Prelude.{IsSome}
 use Rattle.std.specs.List.{list_any, filter_map, flat_map}
 use Rattle.std.specs.FinMap as maps
 use Rattle.std.proofs.lemmas.Bool.{false≢true}
 use Rattle.std.proofs.lemmas.Bool.Decides.{nat_tests}
 use Rattle.std.proofs.lemmas.Cmp.{nat_eq_equiv}
-use Rattle.std.proofs.lemmas.Option.{slice_get_within}
 use Rattle.arrayvec.specs.ArrayVec.{ArrayVec}
 use Rattle.ds_base.specs.Decoding.{IsDecoded}
 use Rattle.ds_base.specs.Geometry.{items_of}
 use Rattle.ds_base.specs.declared.geometry.Geom.{Geom}
-use Rattle.ds_base.specs.declared.geometry.Kind.TheVariants.{Fd, Sb, Pb}
+use Rattle.ds_base.specs.declared.geometry.Kind.TheVariants.{Fd, Pb}
 use Rattle.ds_base.specs.declared.names.Key.{Key}
 use Rattle.ds_base.specs.declared.names.NodeKind.{NodeKind}
 use Rattle.ds_base.specs.declared.names.NodeKind.TheVariants as kinds
@@ -39,26 +38,24 @@ use Rattle.ds_image.proofs.Places.{at-append_right}
 use Rattle.ds_image.proofs.SoundParts.{list-is, objects-of}
 use Rattle.ds_layout.specs.Places.{place_sector}
 use Rattle.ds_layout.specs.declared.places.Place.TheVariants as places
-use Rattle.ds_plans.specs.Bodies.{sub_seen, part_seen}
+use Rattle.ds_plans.specs.Bodies.{sub_seen}
 use Rattle.ds_plans.specs.DirAsks.{DirAsks, dir_sectors}
 use Rattle.ds_plans.specs.DirSeen.{HasDir, HasSub}
 use Rattle.ds_plans.specs.Goes.{Goes}
 use Rattle.ds_plans.specs.Locks.{MayLock}
 use Rattle.ds_plans.specs.PlanAsks.{PlanAsks}
-use Rattle.ds_plans.specs.Steps.{after}
 use Rattle.ds_plans.proofs.Dirs.{body_in, dir_in}
 use Rattle.ds_plans.proofs.Finding.{sub_goes, used_more, used_seen}
 use Rattle.ds_plans.proofs.Going.{goes-after, goes-if, goes-part, goes-weaker}
 use Rattle.ds_plans.proofs.Limits.{or-left, in-front, behind, in-mapped}
-use Rattle.ds_plans.proofs.MapsLeft.{any-some}
 use Rattle.ds_plans.proofs.Wholes.{goes-other}
 use Rattle.ds_ptr.specs.PtrBlock.{IsPtrBlock, ptr_bytes}
 use Rattle.ds_ptr.specs.declared.ptr_block.PtrBlock.{PtrBlock}
 use Rattle.ds_remove.specs.Answers.{has_entry, empty_from}
-use Rattle.ds_remove.specs.Blocks.{ptr_seen, pointed_from, pointed_in, blocks_known}
+use Rattle.ds_plans.specs.Pointers.{pointer_seen}
+use Rattle.ds_remove.specs.Blocks.{pointed_from, pointed_in, blocks_known}
 use Rattle.ds_remove.specs.EntryWalk.{HasObject}
 use Rattle.ds_remove.specs.Staying.{object_sectors, listed_sectors}
-use Rattle.ds_tree.specs.Counts.{pointer_blocks}
 use Rattle.ds_tree.specs.Nodes.{Entries, Dir, FileTree, Object, node_at}
 use Rattle.ds_tree.specs.Steps.{Does}
 use Rattle.ds_tree.specs.declared.calls.CallOf.{CallOf}
@@ -272,7 +269,7 @@ module _ (g : Geom) (slot : ℕ) (call : CallOf Key) (MayHold MayRead : SeenValu
           false≢true (sym (ap is_some (ptr-in g seen p reads n inside (ap is_some there) image t stands agrees ∙ none)) ∙ some);
     }
 
-    ptr_goes : (i n : ℕ) → slice_get ptrs i ≡ Some n → Goes Good (ptr_seen g seen p b n) (HasPtr g seen p n)
+    ptr_goes : (i n : ℕ) → slice_get ptrs i ≡ Some n → Goes Good (pointer_seen g seen p b n) (HasPtr g seen p n)
     ptr_goes i n at =
         goes-if Good (HasPtr g seen p n) (nat_lt n (items_of g Pb)) _ _
         (λ below.
@@ -293,7 +290,7 @@ module _ (g : Geom) (slot : ℕ) (call : CallOf Key) (MayHold MayRead : SeenValu
     pointed_go front (n ∷ rest) found split =
         let at : slice_get ptrs (length front + 0) ≡ Some n = ap (λ l. slice_get l (length front + 0)) split ∙ at-append_right front (n ∷ rest) 0 n refl in
         let next : ptrs ≡ (front ++ n ∷ []) ++ rest = split ∙ sym (append_assoc front (n ∷ []) rest) in
-        goes-after Good (HasPtr g seen p n) (Pointed found (n ∷ rest)) (ptr_seen g seen p b n) _ (ptr_goes (length front + 0) n at)
+        goes-after Good (HasPtr g seen p n) (Pointed found (n ∷ rest)) (pointer_seen g seen p b n) _ (ptr_goes (length front + 0) n at)
         (λ block is.
         goes-weaker Good (Pointed (found ++ block.addresses) rest) (Pointed found (n ∷ rest)) (pointed_from g seen p b (found ++ block.addresses) rest)
         (pointed_go (front ++ n ∷ []) rest (found ++ block.addresses) next)

@@ -1,6 +1,6 @@
 -- A planner that looks for the entry that goes, and for its object, asks for what it may.
-use Rattle.std.proofs.Common.{◌≡◌, ℕ, ◌+◌, ◌*◌, ◌/◌, ◌<◌, ◌==◌, ◌&&◌, Bool, true, false, not, nat_eq, nat_lt, if◌then◌else◌, List, [], ◌∷◌, ◌++◌, Option, None, Some, inl, inr, refl, sym, ap, subst, ◌∙◌, arith, slice_get, is_some}
-use Rattle.std.specs.Prelude.{Result, Ok, Err, IsSome, option_map}
+use Rattle.std.proofs.Common.{◌≡◌, ℕ, ◌*◌, ◌/◌, ◌<◌, ◌==◌, ◌&&◌, Bool, true, false, nat_eq, nat_lt, List, [], ◌∷◌, ◌++◌, Option, None, Some, inl, refl, sym, ap, subst, ◌∙◌, arith, slice_get}
+use Rattle.std.specs.Prelude.{Ok, IsSome, option_map}
 use Rattle.std.specs.List.{Contains, list_any}
 use Rattle.std.specs.FinMap as maps
 use Rattle.std.proofs.lemmas.Bool.{false≢true}
@@ -8,7 +8,7 @@ use Rattle.std.proofs.lemmas.Bool.Decides.{nat_tests}
 use Rattle.std.proofs.lemmas.Cmp.{nat_eq_equiv}
 use Rattle.ds_base.specs.Geometry.{IsGeom, items_of, per_cluster}
 use Rattle.ds_base.specs.declared.geometry.Geom.{Geom}
-use Rattle.ds_base.specs.declared.geometry.Kind.TheVariants.{Fd, Sb}
+use Rattle.ds_base.specs.declared.geometry.Kind.TheVariants.{Fd}
 use Rattle.ds_base.specs.declared.names.Key.{Key}
 use Rattle.ds_base.specs.declared.names.NodeKind.{NodeKind}
 use Rattle.ds_base.specs.declared.names.NodeKind.TheVariants as kinds
@@ -32,7 +32,7 @@ use Rattle.ds_layout.specs.declared.places.Place.TheVariants as places
 use Rattle.ds_plans.specs.Bodies.{body_seen, dir_of_key}
 use Rattle.ds_plans.specs.DirAsks.{DirAsks, dir_sectors}
 use Rattle.ds_plans.specs.DirSeen.{HasDir, IsFoundIn, said_found, said_entry}
-use Rattle.ds_plans.specs.Entries.{entry_named, found_in}
+use Rattle.ds_plans.specs.Entries.{entry_named, found_in, entry_by, wanted_entry}
 use Rattle.ds_plans.specs.Goes.{Goes}
 use Rattle.ds_plans.specs.Locks.{MayLock, of_entry, keys_of, RemovesEntry, SeesEntry}
 use Rattle.ds_plans.specs.PlanAsks.{PlanAsks}
@@ -41,19 +41,17 @@ use Rattle.ds_plans.specs.declared.entries.Found.{Found}
 use Rattle.ds_plans.proofs.BodyWalk.{HasBody, body_goes}
 use Rattle.ds_plans.proofs.Dirs.{body_in, dir_in, dir_goes, object_in}
 use Rattle.ds_plans.proofs.Finding.{find_goes, named-at, named-find}
+use Rattle.ds_plans.proofs.Founds.{HasFound}
 use Rattle.ds_plans.proofs.Going.{goes-after, goes-if}
-use Rattle.ds_plans.proofs.ItemWalk.{goes-known}
-use Rattle.ds_plans.proofs.Known.{block-known}
 use Rattle.ds_plans.proofs.Limits.{or-left, in-front, behind}
 use Rattle.ds_plans.proofs.Wholes.{goes-other, as-plan}
-use Rattle.ds_remove.specs.Entries.{of_kind, entry_by, entry_known, is_of, named_by, body_named}
-use Rattle.ds_remove.specs.FoundEntries.{IsFoundAt, entry-found}
+use Rattle.ds_remove.specs.Entries.{of_kind, entry_of, entry_known, is_of, named_by, body_named}
+use Rattle.ds_remove.specs.FoundEntries.{entry-found}
 use Rattle.ds_remove.specs.Refusals.{go-missing, go-no_dir, go-refused, not_found, not_file, not_dir}
-use Rattle.ds_remove.specs.Staying.{entry_of_key, MayHold, MayRead, lock_list, sector_list, locks_found, sectors_found, clusters_held, bitmaps_read, object_sectors}
-use Rattle.ds_tree.specs.Nodes.{Entries, Dir, File, FileTree, Object, node_at, node_of_key}
+use Rattle.ds_remove.specs.Staying.{entry_of_key, MayHold, MayRead, locks_found, sectors_found, clusters_held, bitmaps_read, object_sectors}
+use Rattle.ds_tree.specs.Nodes.{Dir, File, FileTree, Object, node_at, node_of_key}
 use Rattle.ds_tree.specs.Steps.{Does}
 use Rattle.ds_tree.specs.declared.calls.CallOf.{CallOf}
-use Rattle.ds_tree.specs.declared.calls.TreeReply.{TreeReply}
 use Rattle.ds_tree.specs.declared.calls.TreeReply.TheVariants as replies
 
 -- the directory of a call
@@ -212,23 +210,26 @@ module _ (g : Geom) (is_geom : IsGeom g) (slot : ℕ) (key : Key) (name : List �
     -- the entry is known, or what is asked for is good
     pub entry_goes : Goes Good (entry_known g seen p dir name kind) (λ f. IsFoundIn g seen subs name (Some f))
     entry_goes =
-        goes-after Good (IsFoundIn g seen subs name) (λ f. IsFoundIn g seen subs name (Some f)) (found_in g seen p dir name) (entry_by kind)
+        let Is : Found → Type 0 = λ f. IsFoundIn g seen subs name (Some f) in
+        goes-after Good Is Is (wanted_entry g seen p dir name) (entry_of kind)
+        (goes-after Good (IsFoundIn g seen subs name) Is (found_in g seen p dir name) entry_by
         (goes-other (DirAsks g call key.object seen p) Good (IsFoundIn g seen subs name) (found_in g seen p dir name) of-dir (find_goes g call key seen p reads dir has name))
-        (λ r found. by r found)
+        (λ r found. by r found))
+        (λ f found. of_kind-goes kind refl f f.kind refl found)
       where
         by : (r : Option Found) → IsFoundIn g seen (subs_of (Some dir)) name r
-            → Goes (PlanAsks g slot (go_call kind key name) (MayHold g key name kind) (MayRead g key name kind) seen p) (entry_by kind r) (λ f. IsFoundIn g seen (subs_of (Some dir)) name (Some f))
+            → Goes (PlanAsks g slot (go_call kind key name) (MayHold g key name kind) (MayRead g key name kind) seen p) (entry_by r) (λ f. IsFoundIn g seen (subs_of (Some dir)) name (Some f))
         by None found = missing_good found
-        by (Some f) found = of_kind-goes kind refl f f.kind refl found
+        by (Some f) found = found
 
     -- The object of the entry
 
     module _ (is_dir : dir_of_key g seen p key ≡ Ok dir) (f : Found) (is_f : entry_known g seen p dir name kind ≡ Ok f) (found : IsFoundIn g seen subs name (Some f)) where
-      pub at : IsFoundAt g seen p dir name 0 (subs_of (Some dir)) f
-      at = (entry-found g seen p dir name kind f is_f).2
+      pub at : HasFound g seen p dir name (subs_of (Some dir)) f
+      at = (entry-found g seen p reads dir name kind f is_f).1
 
       pub is_kind : f.kind ≡ kind
-      is_kind = (entry-found g seen p dir name kind f is_f).1
+      is_kind = (entry-found g seen p reads dir name kind f is_f).0
 
       of_key_is : entry_of_key g seen p key name kind ≡ Ok f
       of_key_is = ap (λ r. after r (λ dir. entry_known g seen p dir name kind)) is_dir ∙ is_f
@@ -267,15 +268,15 @@ module _ (g : Geom) (is_geom : IsGeom g) (slot : ℕ) (key : Key) (name : List �
 
       pub lock_allowed : o < items_of g Fd → MayLock g slot call p o
       lock_allowed inside =
-          let same : at.entry.key.object ≡ o = ap (λ (k : Key). k.object) at.same_key in
+          let same : at.entry.key.object ≡ o = ap (λ (k : Key). k.object) (sym at.key) in
           subst (MayLock g slot call p) same (of_entry at.entry (removes-by p kind key name at.entry sees) (subst (λ x. x < items_of g Fd) (sym same) inside))
 
       pub named-in : (image : List Sector) (t : FileTree) (stands : StandsFor g image t) → Agrees seen image → HasNamed stands.parts kind f.key
       named-in image t stands agrees = subst (λ k. HasNamed stands.parts k f.key) is_kind (found-named f found image t stands agrees)
 
-      outside_good : nat_lt o (items_of g Fd) ≡ false → Good (asks.Odd (place_sector g (places.SubBlock at.number)))
+      outside_good : nat_lt o (items_of g Fd) ≡ false → Good (asks.Odd (place_sector g (places.SubBlock f.sub)))
       outside_good past = record {
-        read = (block-known g seen p reads dir at.number at.block at.is_seen).read;
+        read = at.has.read;
         none = λ image t stands agrees.
             let named = named-in image t stands agrees in
             let within = part_within stands.parts.bodies o named.body named.there in
@@ -304,7 +305,7 @@ module _ (g : Geom) (is_geom : IsGeom g) (slot : ℕ) (key : Key) (name : List �
       }
 
       -- the object is known, or what is asked for is good
-      pub object_goes : Goes Good (body_named g seen p kind f.key at.number) (HasObject g seen p kind f.key)
+      pub object_goes : Goes Good (body_named g seen p kind f.key f.sub) (HasObject g seen p kind f.key)
       object_goes =
           let Then = HasObject g seen p kind f.key in
           goes-if Good Then (nat_lt o (items_of g Fd)) _ _

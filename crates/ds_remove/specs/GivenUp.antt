@@ -1,6 +1,5 @@
 -- What an object gives up that goes: each item is marked once, and the call gives it up.
-use Rattle.std.proofs.Common.{◌≡◌, ℕ, ◌+◌, ◌*◌, ◌/◌, ◌<◌, ◌≤◌, Bool, true, false, List, [], ◌∷◌, length, map, get_or, Option, None, Some, inl, inr, refl, sym, ap, subst, ◌∙◌, arith, slice_get, is_some}
-use Rattle.std.specs.Prelude.{Contains, IsSome}
+use Rattle.std.proofs.Common.{◌≡◌, ℕ, true, false, List, [], ◌∷◌, length, map, Option, None, Some, refl, sym, ap, subst, ◌∙◌, arith, slice_get, is_some}
 use Rattle.std.proofs.lemmas.List.{get_or-map}
 use Rattle.ds_base.specs.declared.geometry.Kind.{Kind}
 use Rattle.ds_base.specs.declared.geometry.Kind.TheVariants.{Fd, Sb, Pb, Fb}
@@ -9,10 +8,9 @@ use Rattle.ds_base.specs.declared.names.Key.{Key}
 use Rattle.ds_base.specs.declared.names.NodeKind.{NodeKind}
 use Rattle.ds_base.specs.declared.names.NodeKind.TheVariants as kinds
 use Rattle.ds_dir.specs.declared.sub_block.Entry.{Entry}
-use Rattle.ds_dir.specs.declared.sub_block.SubBlock.{SubBlock}
 use Rattle.ds_fd.specs.declared.body.Body.{Body}
 use Rattle.ds_gives.specs.Leaving.{go_call, given_up}
-use Rattle.ds_image.specs.Objects.{subs_by, ptrs_by, subs_of, ptrs_of, blocks_by, blocks_of, addresses_in, is_used, used_rooms}
+use Rattle.ds_image.specs.Objects.{subs_by, ptrs_by, subs_of, ptrs_of, blocks_by, blocks_of, addresses_in, is_used}
 use Rattle.ds_image.specs.Owns.{Owns, IsAt, bit}
 use Rattle.ds_image.specs.Parts.{Parts, part_at, maps_of, bits_in}
 use Rattle.ds_image.specs.SeenValues.{SeenValue}
@@ -20,12 +18,10 @@ use Rattle.ds_image.specs.Sound.{IsSound}
 use Rattle.ds_image.proofs.Places.{at-single, Contains-from_at}
 use Rattle.ds_image.proofs.Sizes.{part_within}
 use Rattle.ds_image.proofs.SoundParts.{list-is}
-use Rattle.ds_plans.specs.DirSeen.{HasSub}
-use Rattle.ds_plans.specs.Locks.{SeesBody, SeesEntry, SeesNamed, SeesEmpty, IsPast, block_past, pointer_past, GivesUp, file_itself, item_of_file, dir_itself, sub_block_of_dir}
+use Rattle.ds_plans.specs.Locks.{SeesBody, SeesEntry, SeesNamed, SeesEmpty, block_past, pointer_past, GivesUp, file_itself, item_of_file, dir_itself, sub_block_of_dir}
 use Rattle.ds_plans.proofs.GivingWalk.{AreMarked}
-use Rattle.ds_ptr.specs.declared.ptr_block.PtrBlock.{PtrBlock}
 use Rattle.ds_remove.specs.BlocksSeen.{block-seen}
-use Rattle.ds_remove.specs.ContentsWalk.{HasPtr, HasContents}
+use Rattle.ds_remove.specs.ContentsWalk.{HasContents}
 
 -- Marks
 

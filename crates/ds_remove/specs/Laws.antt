@@ -1,5 +1,5 @@
 -- The planner of Remove and Rmdir keeps the law of planners.
-use Rattle.std.proofs.Common.{◌≡◌, ℕ, List, Some, refl, sym, ap, subst, ◌∙◌}
+use Rattle.std.proofs.Common.{◌≡◌, ℕ, List, Some, sym, subst}
 use Rattle.std.specs.Prelude.{Result, Ok, Err}
 use Rattle.ds_base.specs.Geometry.{IsGeom}
 use Rattle.ds_base.specs.Names.{IsName}
@@ -14,8 +14,6 @@ use Rattle.ds_image.specs.Planning.{AllAreFew, AllKeep}
 use Rattle.ds_image.specs.Readings.{Reads}
 use Rattle.ds_image.specs.SeenValues.{SeenValue, look_of}
 use Rattle.ds_image.specs.declared.asks.Ask.{Ask}
-use Rattle.ds_image.specs.declared.asks.Ask.TheVariants as asks
-use Rattle.ds_jrnl.specs.declared.redo.Redo.{Redo}
 use Rattle.ds_plans.specs.Bodies.{dir_of_key}
 use Rattle.ds_plans.specs.DirSeen.{HasDir, IsFoundIn}
 use Rattle.ds_plans.specs.Goes.{Goes}
@@ -26,15 +24,14 @@ use Rattle.ds_plans.specs.declared.entries.Found.{Found}
 use Rattle.ds_plans.proofs.Going.{goes-after}
 use Rattle.ds_plans.proofs.ItemWalk.{goes-known}
 use Rattle.ds_plans.proofs.PlanLaws.{plan_keeps, plan_allowed, plan_few}
+use Rattle.ds_plans.specs.declared.stops.Stop.{Stop}
 use Rattle.ds_remove.specs.Answers.{RemoveValue, call_of, object_given, with_ended, change_known, changed, answers_of}
 use Rattle.ds_remove.specs.ChangeWalk.{gone-good}
-use Rattle.ds_remove.specs.Entries.{entry_known, block_emptied, sub_left, body_named}
+use Rattle.ds_remove.specs.Entries.{entry_known, body_named}
 use Rattle.ds_remove.specs.EntryWalk.{HasObject, key_goes, entry_goes, object_goes}
 use Rattle.ds_remove.specs.EntryWalk as walk
-use Rattle.ds_remove.specs.FoundEntries.{sub-is_left}
 use Rattle.ds_remove.specs.ObjectWalk.{given_goes, Known}
 use Rattle.ds_remove.specs.Staying.{MayHold, MayRead, lock_list, sector_list, holds-stay, reads-stay, few-locks, few-sectors}
-use Rattle.ds_remove.specs.declared.entries.SubLeft.{SubLeft}
 use Rattle.ds_remove.specs.declared.removing.Removing.{Removing}
 use Rattle.ds_tree.specs.CallNames.{HasNames}
 use Rattle.ds_tree.specs.declared.calls.CallOf.{CallOf}
@@ -52,15 +49,9 @@ module _ (g : Geom) (is_geom : IsGeom g) (slot : ℕ) (key : Key) (name : List �
 
   module _ (dir : Body) (has : HasDir g seen p key dir) (is_dir : dir_of_key g seen p key ≡ Ok dir) (f : Found) (found : IsFoundIn g seen (subs_of (Some dir)) name (Some f))
       (is_f : entry_known g seen p dir name kind ≡ Ok f) where
-    abbrev left_of : ℕ → SubLeft
-    left_of n = record { number = n; block = block_emptied (walk.at g is_geom slot key name kind seen p reads dir has is_dir f is_f found).block f.room }
-
-    abbrev here : SubLeft
-    here = left_of (walk.at g is_geom slot key name kind seen p reads dir has is_dir f is_f found).number
-
-    found_goes : Goes Good (after (body_named g seen p kind f.key here.number) (λ b. after (object_given g seen p kind b) (λ redo. Ok (record { redo = with_ended g redo b here; key = f.key })))) Done_well
+    found_goes : Goes Good (after (body_named g seen p kind f.key f.sub) (λ b. after (object_given g seen p kind b) (λ redo. Ok (record { redo = with_ended g redo b f; key = f.key })))) Done_well
     found_goes =
-        goes-after Good (HasObject g seen p kind f.key) Done_well (body_named g seen p kind f.key here.number) _
+        goes-after Good (HasObject g seen p kind f.key) Done_well (body_named g seen p kind f.key f.sub) _
         (object_goes g is_geom slot key name kind seen p reads dir has is_dir f is_f found)
         (λ b obj.
         goes-after Good (Known g is_geom slot key name kind seen p reads dir has is_dir f is_f found b obj) Done_well (object_given g seen p kind b) _
@@ -68,13 +59,6 @@ module _ (g : Geom) (is_geom : IsGeom g) (slot : ℕ) (key : Key) (name : List �
         (λ redo known.
         gone-good g is_geom key name kind seen p reads dir has f (walk.at g is_geom slot key name kind seen p reads dir has is_dir f is_f found)
         (walk.is_kind g is_geom slot key name kind seen p reads dir has is_dir f is_f found) b obj redo known.0 known.1))
-
-    left_goes : Goes Good (after (sub_left g seen p dir f) (λ left. after (body_named g seen p kind f.key left.number) (λ b.
-        after (object_given g seen p kind b) (λ redo. Ok (record { redo = with_ended g redo b left; key = f.key }))))) Done_well
-    left_goes =
-        subst (λ r. Goes Good (after r (λ (left : SubLeft). after (body_named g seen p kind f.key left.number) (λ b.
-        after (object_given g seen p kind b) (λ redo. Ok (record { redo = with_ended g redo b left; key = f.key }))))) Done_well)
-        (sym (sub-is_left g seen p dir name f (walk.at g is_geom slot key name kind seen p reads dir has is_dir f is_f found))) found_goes
 
   known_goes : Goes Good (change_known g seen p key name kind) Done_well
   known_goes =
@@ -84,11 +68,11 @@ module _ (g : Geom) (is_geom : IsGeom g) (slot : ℕ) (key : Key) (name : List �
       goes-after Good (λ f. IsFoundIn g seen (subs_of (Some dir)) name (Some f) × (entry_known g seen p dir name kind ≡ Ok f)) Done_well (entry_known g seen p dir name kind) _
       (goes-known Good (λ f. IsFoundIn g seen (subs_of (Some dir)) name (Some f)) (entry_known g seen p dir name kind)
       (entry_goes g is_geom slot key name kind seen p reads dir is.0))
-      (λ f found. left_goes dir is.0 is.1 f found.0 found.1))
+      (λ f found. found_goes dir is.0 is.1 f found.0 found.1))
 
-  settled-good : (r : Result Removing Ask) → Goes Good r Done_well → Good (changed r)
+  settled-good : (r : Result Removing Stop) → Goes Good r Done_well → Good (changed r)
   settled-good (Ok removing) is = is
-  settled-good (Err ask) good = good
+  settled-good (Err stop) good = good
 
   -- all that is asked for is good
   pub remove_asks : Good (changed (change_known g seen p key name kind))

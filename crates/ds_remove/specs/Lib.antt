@@ -8,9 +8,9 @@ pub mod EntryWalk
 pub mod FoundEntries
 pub mod GivenUp
 pub mod Laws
-pub mod LeftKnown
 pub mod ObjectWalk
 pub mod Refusals
+pub mod Removed
 pub mod Staying
 pub mod TargetsGone
 pub mod Written

@@ -1,6 +1,6 @@
 -- A planner that gives up all items of an object asks for what it may.
-use Rattle.std.proofs.Common.{◌≡◌, ◌≢◌, ℕ, ◌+◌, ◌*◌, ◌/◌, ◌<◌, ◌≤◌, ◌⊎◌, Bool, true, false, nat_eq, nat_lt, List, [], ◌∷◌, ◌++◌, length, map, Option, None, Some, inl, inr, refl, sym, ap, subst, ◌∙◌, arith, slice_get}
-use Rattle.std.specs.Prelude.{Result, Ok, IsSome}
+use Rattle.std.proofs.Common.{◌≡◌, ◌≢◌, ℕ, ◌+◌, ◌*◌, ◌/◌, ◌<◌, ◌⊎◌, true, false, nat_eq, nat_lt, List, [], ◌∷◌, ◌++◌, length, map, Option, None, Some, inl, inr, refl, sym, ap, subst, ◌∙◌, arith, slice_get}
+use Rattle.std.specs.Prelude.{Ok, IsSome}
 use Rattle.std.specs.List.{list_any}
 use Rattle.std.specs.FinMap as maps
 use Rattle.std.proofs.lemmas.Bool.{false≢true}
@@ -16,7 +16,6 @@ use Rattle.ds_base.specs.declared.names.NodeKind.{NodeKind}
 use Rattle.ds_base.specs.declared.names.NodeKind.TheVariants as kinds
 use Rattle.ds_base.specs.declared.sectors.Sector.{Sector}
 use Rattle.ds_changes.proofs.Rooms.{used-same}
-use Rattle.ds_dir.specs.declared.sub_block.Entry.{Entry}
 use Rattle.ds_fd.specs.declared.body.Body.{Body}
 use Rattle.ds_gives.specs.Leaving.{go_call}
 use Rattle.ds_gives.specs.Leaving as leaving
@@ -133,8 +132,8 @@ module _ (g : Geom) (is_geom : IsGeom g) (slot : ℕ) (key : Key) (name : List �
         let sees = walk.sees g is_geom slot key name kind seen p reads dir has is_dir f is_f found in
         let is_kind = walk.is_kind g is_geom slot key name kind seen p reads dir has is_dir f is_f found in
         let body : SeesBody p f.key kind b = record { there = obj.there; life = obj.life; is_kind = obj.is_kind } in
-        object-gives g seen p key name here.entry sees b contents wide kind (here.same_kind ∙ is_kind) (subst (λ k. SeesBody p k kind b) (sym here.same_key) body) of i n
-        (subst (λ x. slice_get (leaving.given_up p x b of) i ≡ Some n) (sym (ap (λ (k : Key). k.object) here.same_key)) (ap (λ l. slice_get l i) same ∙ at))
+        object-gives g seen p key name here.entry sees b contents wide kind (sym here.kind ∙ is_kind) (subst (λ k. SeesBody p k kind b) here.key body) of i n
+        (subst (λ x. slice_get (leaving.given_up p x b of) i ≡ Some n) (ap (λ (k : Key). k.object) here.key) (ap (λ l. slice_get l i) same ∙ at))
 
     abbrev Left : Kind → List ℕ → Redo → Redo → Type 0
     Left of items redo after_it = (maps : Maps) × AreLeft g seen p of items 0 maps × (after_it ≡ with_maps_left g of redo maps)

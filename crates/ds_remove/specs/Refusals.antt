@@ -1,5 +1,5 @@
 -- How a call that takes an object away is refused.
-use Rattle.std.proofs.Common.{◌≡◌, ℕ, true, false, not, nat_lt, List, Option, None, Some, refl, sym, ap, ◌∙◌, is_some}
+use Rattle.std.proofs.Common.{◌≡◌, ℕ, true, false, not, nat_lt, List, Option, None, Some, refl, ap, ◌∙◌, is_some}
 use Rattle.std.specs.FinMap as maps
 use Rattle.ds_base.specs.declared.geometry.Geom.{Geom}
 use Rattle.ds_base.specs.declared.names.Key.{Key}
@@ -7,7 +7,7 @@ use Rattle.ds_base.specs.declared.names.NodeKind.{NodeKind}
 use Rattle.ds_base.specs.declared.names.NodeKind.TheVariants as kinds
 use Rattle.ds_gives.specs.Leaving.{go_call}
 use Rattle.ds_gives.proofs.Going.{entry-node}
-use Rattle.ds_tree.specs.Nodes.{Entries, Node, Dir, File, FileTree, node_at, node_of_key}
+use Rattle.ds_tree.specs.Nodes.{Entries, Dir, File, FileTree, node_at, node_of_key}
 use Rattle.ds_tree.specs.Steps.{Does, refuses_remove, refuses_rmdir, entry_node, has_entries, is_dir, is_file}
 use Rattle.ds_tree.specs.declared.calls.TreeReply.{TreeReply}
 use Rattle.ds_tree.specs.declared.calls.TreeReply.TheVariants as replies

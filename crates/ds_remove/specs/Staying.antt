@@ -1,48 +1,46 @@
 -- What was known of an entry and its object stays known when more is seen, and few locks are held and few sectors read.
-use Rattle.std.proofs.Common.{◌≡◌, ℕ, suc, ◌+◌, ◌*◌, ◌/◌, ◌<◌, ◌≤◌, ◌==◌, ◌&&◌, ◌||◌, Bool, true, false, nat_eq, nat_lt, if◌then◌else◌, List, [], ◌∷◌, ◌++◌, length, map, Option, None, Some, inl, inr, refl, sym, ap, subst, ◌∙◌, arith, length-append, length-take, is_some}
+use Rattle.std.proofs.Common.{◌≡◌, ℕ, ◌+◌, ◌/◌, ◌<◌, ◌≤◌, ◌||◌, Bool, true, false, nat_eq, nat_lt, if◌then◌else◌, List, [], ◌∷◌, ◌++◌, length, map, Option, None, Some, refl, sym, ap, ◌∙◌, arith, length-append, length-take}
 use Rattle.std.specs.Prelude.{Result, Ok, Err}
 use Rattle.std.specs.List.{list_any}
 use Rattle.std.proofs.lemmas.Bool.{false≢true}
 use Rattle.std.proofs.lemmas.Bool.Decides.{nat_tests}
-use Rattle.std.proofs.lemmas.Cmp.{nat_eq_equiv}
 use Rattle.std.proofs.lemmas.List.{length-map}
 use Rattle.std.proofs.lemmas.List.Folds.{list_any-append}
-use Rattle.ds_base.specs.Geometry.{IsGeom, items_of, per_cluster}
+use Rattle.ds_base.specs.Geometry.{items_of, per_cluster}
 use Rattle.ds_base.specs.declared.geometry.Geom.{Geom}
-use Rattle.ds_base.specs.declared.geometry.Kind.{Kind}
 use Rattle.ds_base.specs.declared.geometry.Kind.TheVariants.{Fd, Sb, Pb, Fb}
 use Rattle.ds_base.specs.declared.names.Key.{Key}
 use Rattle.ds_base.specs.declared.names.NodeKind.{NodeKind}
 use Rattle.ds_base.specs.declared.names.NodeKind.TheVariants as kinds
 use Rattle.ds_base.specs.declared.sectors.Sector.{Sector}
 use Rattle.ds_dir.specs.declared.sub_block.SubBlock.{SubBlock}
-use Rattle.ds_fd.specs.Body.{IsBody, most_count}
+use Rattle.ds_fd.specs.Body.{IsBody}
 use Rattle.ds_fd.specs.declared.body.Body.{Body}
 use Rattle.ds_image.specs.Looks.{Look}
-use Rattle.ds_image.specs.Objects.{subs_by, ptrs_by, subs_of, ptrs_of, rooms_in}
+use Rattle.ds_image.specs.Objects.{subs_by, ptrs_by, subs_of, ptrs_of}
 use Rattle.ds_image.specs.Parts.{Parts, part_at}
 use Rattle.ds_image.specs.Readings.{Reads}
 use Rattle.ds_image.specs.SeenValues.{SeenValue, has_lock, look_of}
-use Rattle.ds_image.specs.declared.asks.Ask.{Ask}
-use Rattle.ds_image.specs.declared.asks.Ask.TheVariants as asks
 use Rattle.ds_image.proofs.Sizes.{body_is, part_within}
 use Rattle.ds_layout.specs.Places.{cluster_lock, place_sector}
 use Rattle.ds_layout.specs.declared.places.Place.TheVariants as places
 use Rattle.ds_plans.specs.Bodies.{part_seen, body_seen, body_alive, body_of_key, body_of_dir, dir_of_key, sub_seen}
 use Rattle.ds_plans.specs.DirAsks.{dir_sectors}
-use Rattle.ds_plans.specs.Entries.{found_among, found_from, found_in}
-use Rattle.ds_plans.specs.Steps.{after}
+use Rattle.ds_plans.specs.Entries.{found_among, found_from, found_in, entry_by, wanted_entry}
+use Rattle.ds_plans.specs.Steps.{after, or_later}
 use Rattle.ds_plans.specs.declared.entries.Found.{Found}
 use Rattle.ds_plans.proofs.Alike.{body_alike, sub_alike}
+use Rattle.ds_plans.proofs.Founds.{by-known}
 use Rattle.ds_plans.proofs.Growing.{Grows}
-use Rattle.ds_plans.proofs.Limits.{after-ok, part-known, if-ok, firsts, length-firsts, or-left, or-right, in-front, behind, in-mapped, in-firsts}
-use Rattle.ds_remove.specs.Entries.{entry_by, entry_known}
-use Rattle.ds_remove.specs.FoundEntries.{entry-by}
+use Rattle.ds_plans.proofs.Limits.{after-ok, part-known, if-ok, firsts, length-firsts, in-front, behind}
+use Rattle.ds_plans.specs.declared.stops.Ending.TheVariants as endings
+use Rattle.ds_plans.specs.declared.stops.Stop.{Stop}
+use Rattle.ds_plans.specs.declared.stops.Stop.TheVariants as stops
+use Rattle.ds_remove.specs.Entries.{entry_of, entry_known}
 use Rattle.ds_tree.specs.Counts.{pointer_blocks}
-use Rattle.ds_tree.specs.declared.calls.TreeReply.TheVariants as replies
 
 -- the entry of a name in the directory of a key
-abbrev pub entry_of_key : Geom → SeenValue → Parts → Key → List ℕ → NodeKind → Result Found Ask
+abbrev pub entry_of_key : Geom → SeenValue → Parts → Key → List ℕ → NodeKind → Result Found Stop
 entry_of_key g seen p key name kind = after (dir_of_key g seen p key) (λ dir. entry_known g seen p dir name kind)
 
 -- the sectors of an object: its body's, and those of the sub-blocks and pointer blocks that it lists
@@ -62,13 +60,13 @@ bitmaps_read g kinds.Dir = map (λ c. place_sector g (places.Bitmap Sb c)) (firs
 bitmaps_read g kinds.File = map (λ c. place_sector g (places.Bitmap Pb c)) (firsts 8) ++ map (λ c. place_sector g (places.Bitmap Fb c)) (firsts 8)
 
 -- the locks and the sectors of the entry's object, once it was found
-abbrev pub locks_found : Geom → Result Found Ask → List ℕ
+abbrev pub locks_found : Geom → Result Found Stop → List ℕ
 locks_found g (Ok f) = f.key.object ∷ cluster_lock Fd (f.key.object / per_cluster g Fd) ∷ []
-locks_found g (Err ask) = []
+locks_found g (Err stop) = []
 
-abbrev pub sectors_found : Geom → Parts → Result Found Ask → List ℕ
+abbrev pub sectors_found : Geom → Parts → Result Found Stop → List ℕ
 sectors_found g p (Ok f) = place_sector g (places.Bitmap Fd (f.key.object / per_cluster g Fd)) ∷ object_sectors g p f.key.object
-sectors_found g p (Err ask) = []
+sectors_found g p (Err stop) = []
 
 -- all locks that a planner may come to hold, and all sectors that it may come to read
 abbrev pub lock_list : Geom → Key → List ℕ → NodeKind → SeenValue → Parts → List ℕ
@@ -109,19 +107,19 @@ module _ (g : Geom) (seen next : SeenValue) (p q : Parts) (grows : Grows seen ne
   sub-stays : (b : Body) (n : ℕ) (block : SubBlock) → sub_seen g seen p b n ≡ Ok block → sub_seen g next q b n ≡ Ok block
   sub-stays b n block is =
       let at = place_sector g (places.SubBlock n) in
-      let test = if-ok (nat_lt n (items_of g Sb)) (part_seen at (look_of seen at) (part_at p.subs n)) (asks.Odd (place_sector g (places.Body b.object))) block is in
+      let test = if-ok (nat_lt n (items_of g Sb)) (part_seen at (look_of seen at) (part_at p.subs n)) (stops.Odd (place_sector g (places.Body b.object))) block is in
       let l : n < items_of g Sb = let e = test.0 in grind (arith, nat_tests, e) in
-      ap (λ t. if t then part_seen at (look_of next at) (part_at q.subs n) else Err (asks.Odd (place_sector g (places.Body b.object)))) test.0
+      ap (λ t. if t then part_seen at (look_of next at) (part_at q.subs n) else Err (stops.Odd (place_sector g (places.Body b.object)))) test.0
       ∙ part-stays at (part_at p.subs n) (part_at q.subs n) block (λ same. sub_alike g (look_of seen) (look_of next) p q n l same reads reads') test.1
 
   key-stays : (key : Key) (b : Body) → body_of_key g seen p key ≡ Ok b → body_of_key g next q key ≡ Ok b
   key-stays key b is =
-      let outer = if-ok (nat_lt key.object (items_of g Fd)) (if has_lock seen key.object then after (body_seen g seen p key.object) (body_alive key) else Err (asks.Lock key.object)) (asks.Done replies.NoObject) b is in
-      let inner = if-ok (has_lock seen key.object) (after (body_seen g seen p key.object) (body_alive key)) (asks.Lock key.object) b outer.1 in
+      let outer = if-ok (nat_lt key.object (items_of g Fd)) (if has_lock seen key.object then after (body_seen g seen p key.object) (body_alive key) else Err (stops.Lock key.object)) (stops.Done endings.NoObject) b is in
+      let inner = if-ok (has_lock seen key.object) (after (body_seen g seen p key.object) (body_alive key)) (stops.Lock key.object) b outer.1 in
       let known = after-ok (body_seen g seen p key.object) (body_alive key) b inner.1 in
       let l : key.object < items_of g Fd = let e = outer.0 in grind (arith, nat_tests, e) in
-      ap (λ t. if t then (if has_lock next key.object then after (body_seen g next q key.object) (body_alive key) else Err (asks.Lock key.object)) else Err (asks.Done replies.NoObject)) outer.0
-      ∙ ap (λ t. if t then after (body_seen g next q key.object) (body_alive key) else Err (asks.Lock key.object)) (grows.locks key.object inner.0)
+      ap (λ t. if t then (if has_lock next key.object then after (body_seen g next q key.object) (body_alive key) else Err (stops.Lock key.object)) else Err (stops.Done endings.NoObject)) outer.0
+      ∙ ap (λ t. if t then after (body_seen g next q key.object) (body_alive key) else Err (stops.Lock key.object)) (grows.locks key.object inner.0)
       ∙ ap (λ r. after r (body_alive key)) (body-stays key.object known.0 l known.1) ∙ known.2
 
   dir_key-stays : (key : Key) (b : Body) → dir_of_key g seen p key ≡ Ok b → dir_of_key g next q key ≡ Ok b
@@ -129,31 +127,26 @@ module _ (g : Geom) (seen next : SeenValue) (p q : Parts) (grows : Grows seen ne
       let known = after-ok (body_of_key g seen p key) body_of_dir b is in
       ap (λ r. after r body_of_dir) (key-stays key known.0 known.1) ∙ known.2
 
-  found-stays : (b : Body) (name : List ℕ) (from : ℕ) (subs : List ℕ) (f : Found) → found_from g seen p b name from subs ≡ Ok (Some f) → found_from g next q b name from subs ≡ Ok (Some f)
-  found-stays b name from [] f is = absurd cc
-  found-stays b name from (n ∷ subs) f is =
+  found-stays : (b : Body) (name : List ℕ) (subs : List ℕ) (f : Found) → found_from g seen p b name subs ≡ Ok (Some f) → found_from g next q b name subs ≡ Ok (Some f)
+  found-stays b name [] f is = absurd cc
+  found-stays b name (n ∷ subs) f is =
       let known = after-ok (sub_seen g seen p b n) _ (Some f) is in
-      ap (λ r. after r (λ (block : SubBlock). elim (found_among from 0 name (rooms_in (Some block))) as (λ _. Result (Option Found) Ask) [
-        | None ↦ found_from g next q b name (suc from) subs
-        | Some found ↦ Ok (Some found)
-      ])) (sub-stays b n known.0 known.1)
-      ∙ by (found_among from 0 name known.0.rooms) known.2 (λ e. found-stays b name (suc from) subs f e)
+      ap (λ r. after r (λ (block : SubBlock). or_later (found_among n block name) (found_from g next q b name subs))) (sub-stays b n known.0 known.1)
+      ∙ by (found_among n known.0 name) known.2 (λ e. found-stays b name subs f e)
     where
-      by : (r : Option Found)
-          → ◌≡◌ {A = Result (Option Found) Ask} (elim r as (λ _. Result (Option Found) Ask) [ None ↦ found_from g seen p b name (suc from) subs | Some found ↦ Ok (Some found) ]) (Ok (Some f))
-          → (found_from g seen p b name (suc from) subs ≡ Ok (Some f) → found_from g next q b name (suc from) subs ≡ Ok (Some f))
-          → ◌≡◌ {A = Result (Option Found) Ask} (elim r as (λ _. Result (Option Found) Ask) [ None ↦ found_from g next q b name (suc from) subs | Some found ↦ Ok (Some found) ]) (Ok (Some f))
+      by : (r : Option Found) → or_later r (found_from g seen p b name subs) ≡ Ok (Some f)
+          → (found_from g seen p b name subs ≡ Ok (Some f) → found_from g next q b name subs ≡ Ok (Some f)) → or_later r (found_from g next q b name subs) ≡ Ok (Some f)
       by None is later = later is
       by (Some found) is later = is
 
   pub entry-stays : (key : Key) (name : List ℕ) (kind : NodeKind) (f : Found) → entry_of_key g seen p key name kind ≡ Ok f → entry_of_key g next q key name kind ≡ Ok f
   entry-stays key name kind f is =
       let dir = after-ok (dir_of_key g seen p key) _ f is in
-      let found = after-ok (found_in g seen p dir.0 name) (entry_by kind) f dir.2 in
-      let one = entry-by kind found.0 f found.2 in
+      let wanted = after-ok (wanted_entry g seen p dir.0 name) (entry_of kind) f dir.2 in
+      let found = after-ok (found_in g seen p dir.0 name) entry_by wanted.0 wanted.1 in
       ap (λ r. after r (λ dir. entry_known g next q dir name kind)) (dir_key-stays key dir.0 dir.1)
-      ∙ ap (λ r. after r (entry_by kind)) (found-stays dir.0 name 0 (subs_of (Some dir.0)) f (found.1 ∙ ap Ok one.0))
-      ∙ ap (entry_by kind) (sym one.0) ∙ found.2
+      ∙ ap (λ r. after (after r entry_by) (entry_of kind)) (found-stays dir.0 name (subs_of (Some dir.0)) wanted.0 (found.1 ∙ ap Ok (by-known found.0 wanted.0 found.2)))
+      ∙ wanted.2
 
   -- the sectors of an object stay its sectors
   listed-stay : (Lists : Option Body → List ℕ) → Lists None ≡ [] → (o at : ℕ) → list_any (nat_eq at) (place_sector g (places.Body o) ∷ Lists (part_at p.bodies o)) ≡ true
@@ -176,12 +169,12 @@ module _ (g : Geom) (seen next : SeenValue) (p q : Parts) (grows : Grows seen ne
           let same = body_alike g (look_of seen) (look_of next) p q o l (here.1 ∙ sym there) reads reads' in
           ap (λ (r : Option Body). list_any (nat_eq at) (place_sector g (places.Body o) ∷ Lists r)) (sym same ∙ is) ∙ any
 
-  locks_found-stay : (key : Key) (name : List ℕ) (kind : NodeKind) (k : ℕ) (r : Result Found Ask) → entry_of_key g seen p key name kind ≡ r → list_any (nat_eq k) (locks_found g r) ≡ true
+  locks_found-stay : (key : Key) (name : List ℕ) (kind : NodeKind) (k : ℕ) (r : Result Found Stop) → entry_of_key g seen p key name kind ≡ r → list_any (nat_eq k) (locks_found g r) ≡ true
       → list_any (nat_eq k) (locks_found g (entry_of_key g next q key name kind)) ≡ true
   locks_found-stay key name kind k (Ok f) is any = ap (λ r. list_any (nat_eq k) (locks_found g r)) (entry-stays key name kind f is) ∙ any
-  locks_found-stay key name kind k (Err ask) is any = absurd (false≢true any)
+  locks_found-stay key name kind k (Err stop) is any = absurd (false≢true any)
 
-  sectors_found-stay : (key : Key) (name : List ℕ) (kind : NodeKind) (k : ℕ) (r : Result Found Ask) → entry_of_key g seen p key name kind ≡ r → list_any (nat_eq k) (sectors_found g p r) ≡ true
+  sectors_found-stay : (key : Key) (name : List ℕ) (kind : NodeKind) (k : ℕ) (r : Result Found Stop) → entry_of_key g seen p key name kind ≡ r → list_any (nat_eq k) (sectors_found g p r) ≡ true
       → list_any (nat_eq k) (sectors_found g q (entry_of_key g next q key name kind)) ≡ true
   sectors_found-stay key name kind k (Ok f) is any =
       let map_at : ℕ = place_sector g (places.Bitmap Fd (f.key.object / per_cluster g Fd)) in
@@ -189,7 +182,7 @@ module _ (g : Geom) (seen next : SeenValue) (p q : Parts) (grows : Grows seen ne
       ∙ either k (map_at ∷ []) (object_sectors g p f.key.object) (map_at ∷ object_sectors g q f.key.object)
       (in-front k (map_at ∷ []) (object_sectors g q f.key.object))
       (λ e. behind k (map_at ∷ []) (object_sectors g q f.key.object) (listed-stay (listed_sectors g) refl f.key.object k e)) any
-  sectors_found-stay key name kind k (Err ask) is any = absurd (false≢true any)
+  sectors_found-stay key name kind k (Err stop) is any = absurd (false≢true any)
 
   pub holds-stay : (key : Key) (name : List ℕ) (kind : NodeKind) (k : ℕ) → MayHold g key name kind seen p k → MayHold g key name kind next q k
   holds-stay key name kind k any =
@@ -237,9 +230,9 @@ few-bitmaps g kinds.File =
     let fb : ℕ → ℕ = λ c. place_sector g (places.Bitmap Fb c) in
     omega (arith, length-append (map pb (firsts 8)) (map fb (firsts 8)), length-map (firsts 8) pb, length-map (firsts 8) fb, length-firsts 8)
 
-few-locks_found : (g : Geom) (r : Result Found Ask) → length (locks_found g r) ≤ 2
+few-locks_found : (g : Geom) (r : Result Found Stop) → length (locks_found g r) ≤ 2
 few-locks_found g (Ok f) = omega arith
-few-locks_found g (Err ask) = omega arith
+few-locks_found g (Err stop) = omega arith
 
 few-object : (g : Geom) (look : Look) (p : Parts) → Reads g look p → (o : ℕ) → length (object_sectors g p o) ≤ 97
 few-object g look p reads o =
@@ -248,9 +241,9 @@ few-object g look p reads o =
     let ptrs = map (λ n. place_sector g (places.PtrBlock n)) (ptrs_of r) in
     omega (arith, length-append subs ptrs, length-map (subs_of r) (λ n. place_sector g (places.SubBlock n)), length-map (ptrs_of r) (λ n. place_sector g (places.PtrBlock n)), few-listed g look p reads o r refl)
 
-few-sectors_found : (g : Geom) (look : Look) (p : Parts) → Reads g look p → (r : Result Found Ask) → length (sectors_found g p r) ≤ 98
+few-sectors_found : (g : Geom) (look : Look) (p : Parts) → Reads g look p → (r : Result Found Stop) → length (sectors_found g p r) ≤ 98
 few-sectors_found g look p reads (Ok f) = omega (arith, few-object g look p reads f.key.object)
-few-sectors_found g look p reads (Err ask) = omega arith
+few-sectors_found g look p reads (Err stop) = omega arith
 
 pub few-locks : (g : Geom) (key : Key) (name : List ℕ) (kind : NodeKind) (seen : SeenValue) (p : Parts) → length (lock_list g key name kind seen p) ≤ 22
 few-locks g key name kind seen p =

@@ -1,6 +1,6 @@
 -- The bitmaps that are written to take an object away, kind after kind: they clear its items, stand in their order, and their
 -- clusters are held.
-use Rattle.std.proofs.Common.{◌≡◌, ◌≢◌, ℕ, zero, suc, ◌+◌, ◌*◌, ◌<◌, ◌≤◌, ◌⊎◌, inl, inr, List, [], ◌∷◌, ◌++◌, length, map, Option, None, Some, true, refl, sym, ap, subst, ◌∙◌, arith, slice_get, length-append}
+use Rattle.std.proofs.Common.{◌≡◌, ◌≢◌, ℕ, zero, suc, ◌+◌, ◌<◌, ◌≤◌, ◌⊎◌, inl, inr, List, [], ◌∷◌, ◌++◌, length, Option, None, Some, true, refl, sym, ap, subst, ◌∙◌, arith, slice_get, length-append}
 use Rattle.std.proofs.lemmas.List.{length-map, map-append}
 use Rattle.ds_base.specs.Geometry.{IsGeom, clusters_of}
 use Rattle.ds_base.specs.declared.geometry.Geom.{Geom}
@@ -8,7 +8,6 @@ use Rattle.ds_base.specs.declared.geometry.GeomField.TheVariants.{Clusters}
 use Rattle.ds_base.specs.declared.geometry.Kind.{Kind}
 use Rattle.ds_base.specs.declared.geometry.Kind.TheVariants.{Fd, Sb, Pb, Fb}
 use Rattle.ds_base.specs.declared.sectors.Sector.{Sector}
-use Rattle.ds_bitmap.specs.Bits.{Bitmap}
 use Rattle.ds_gives.specs.MapWrites.{MapWrite, map_pair, map_pairs, ClearsMaps}
 use Rattle.ds_image.specs.Asking.{Agrees}
 use Rattle.ds_image.specs.Parts.{Parts}
@@ -18,7 +17,7 @@ use Rattle.ds_image.specs.SeenValues.{SeenValue, has_lock, look_of}
 use Rattle.ds_image.specs.Sound.{StandsFor}
 use Rattle.ds_image.proofs.Places.{at-append}
 use Rattle.ds_jrnl.specs.declared.redo.Redo.{Redo}
-use Rattle.ds_layout.specs.Places.{cluster_lock, clusters_before, place_sector}
+use Rattle.ds_layout.specs.Places.{cluster_lock, place_sector}
 use Rattle.ds_layout.specs.declared.places.Place.TheVariants as places
 use Rattle.ds_plans.specs.Giving.{Maps, map_sectors, with_maps_left}
 use Rattle.ds_plans.proofs.Cleared.{ClearsKind, ClearsSome, map_write, map_writes, writes-sectors, write-of, clears-none, clears-more, clears-all, left-clears}

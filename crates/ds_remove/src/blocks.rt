@@ -1,23 +1,21 @@
 //! The blocks of a file.
 ghost use Rattle.std.specs.Prelude.{◌≡◌, ◌<◌, ◌≤◌, length};
 ghost use Rattle.ds_base.specs.Geometry.{IsGeom, items_of};
-ghost use Rattle.ds_base.specs.declared.geometry.Kind.TheVariants.{Fd, Pb};
+ghost use Rattle.ds_base.specs.declared.geometry.Kind.TheVariants.{Fd};
 ghost use Rattle.ds_image.specs.Objects.{ptrs_of};
 ghost use Rattle.ds_image.specs.Parts.{Parts};
 ghost use Rattle.ds_image.specs.Readings.{Reads};
 ghost use Rattle.ds_image.specs.SeenValues.{look_of};
-ghost use Rattle.ds_remove.specs.Blocks.{blocks_known, pointed_in, ptr_seen};
-ghost use Rattle.ds_tree.specs.Counts.{pointer_blocks};
+ghost use Rattle.ds_remove.specs.Blocks.{blocks_known, pointed_in};
 
 use arrayvec::ArrayVec;
 use ds_base::{Geom, NodeKind};
 use ds_fd::Body;
-use ds_image::{Ask, Seen};
-use ds_layout::{Place, sector_of};
-use ds_ptr::PtrBlock;
+use ds_image::Seen;
+use ds_plans::{Stop, pointer_block, pointer_blocks};
 
 /// The blocks of a file, each once read; otherwise what a planner asks for before it knows them.
-pub fn blocks_known(geom: &Geom, seen: &Seen, file: &Body) -> Result<ArrayVec<u32, 12288>, Ask>
+pub fn blocks_known(geom: &Geom, seen: &Seen, file: &Body) -> Result<ArrayVec<u32, 12288>, Stop>
     requires geom { IsGeom geom.now }
     requires inside { file.now.object < items_of geom.now Fd }
     ensures { (p : Parts) → Reads geom.now (look_of seen.now) p → result ≡ blocks_known geom.now seen.now p file.now }
@@ -34,14 +32,14 @@ pub fn blocks_known(geom: &Geom, seen: &Seen, file: &Body) -> Result<ArrayVec<u3
 }
 
 /// The addresses in a file's pointer blocks.
-fn pointed_in(geom: &Geom, seen: &Seen, file: &Body) -> Result<ArrayVec<u32, 12288>, Ask>
+fn pointed_in(geom: &Geom, seen: &Seen, file: &Body) -> Result<ArrayVec<u32, 12288>, Stop>
     requires geom { IsGeom geom.now }
     requires inside { file.now.object < items_of geom.now Fd }
     ensures { (p : Parts) → Reads geom.now (look_of seen.now) p → result ≡ pointed_in geom.now seen.now p file.now }
 {
     let mut found = ArrayVec::new();
     for number in ptrs_of(file) {
-        let block = ptr_block(geom, seen, file, *number)?;
+        let block = pointer_block(geom, seen, file, *number)?;
         let _ = found.try_extend_from_slice(&block.addresses);
     }
     Ok(found)
@@ -54,42 +52,7 @@ pub fn ptrs_of(body: &Body) -> &[u32]
     ensures few { length result.now ≤ 96 }
 {
     match body.kind {
-        Some(NodeKind::File) => &body.addresses[..pointer_blocks(body.count).min(96)],
+        Some(NodeKind::File) => &body.addresses[..(pointer_blocks(body.count) as usize).min(96)],
         _ => &[],
     }
-}
-
-/// The pointer blocks of a file of so many blocks.
-fn pointer_blocks(count: u32) -> usize
-    ensures { result ≡ pointer_blocks count }
-{
-    if count <= 96 {
-        return 0;
-    }
-    count.div_ceil(128) as usize
-}
-
-/// A pointer block that a body lists; otherwise what a planner asks for before it knows it.
-#[tactic(auto, using(crate::proofs::Pointers::ptr_decoded))]
-fn ptr_block(geom: &Geom, seen: &Seen, file: &Body, n: u32) -> Result<PtrBlock, Ask>
-    requires geom { IsGeom geom.now }
-    requires inside { file.now.object < items_of geom.now Fd }
-    ensures { (p : Parts) → Reads geom.now (look_of seen.now) p → result ≡ ptr_seen geom.now seen.now p file.now n }
-{
-    if n >= ptr_blocks(geom) {
-        return Err(Ask::Odd(sector_of(geom, &Place::Body(file.object))));
-    }
-    let at = sector_of(geom, &Place::PtrBlock(n));
-    match seen.sector(at) {
-        Some(sector) => Ok(PtrBlock::decode(sector)),
-        None => Err(Ask::Read(at)),
-    }
-}
-
-/// The number of pointer blocks.
-fn ptr_blocks(geom: &Geom) -> u32
-    requires { IsGeom geom.now }
-    ensures { result ≡ items_of geom.now Pb }
-{
-    u32::from(geom.clusters[2]) * u32::from(geom.items[2])
 }

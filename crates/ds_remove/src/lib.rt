@@ -6,5 +6,7 @@ mod blocks;
 mod entries;
 mod objects;
 mod removing;
+#[cfg(test)]
+mod tests;
 
 pub use removing::Remove;

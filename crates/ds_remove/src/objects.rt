@@ -14,14 +14,13 @@ use arrayvec::ArrayVec;
 use ds_base::{Geom, Kind, NodeKind};
 use ds_dir::Entry;
 use ds_fd::Body;
-use ds_image::{Ask, Seen};
+use ds_image::Seen;
 use ds_jrnl::Redo;
 use ds_layout::{Place, sector_of};
-use ds_plans::{give_up, sub_block, subs_of};
-use ds_tree::TreeReply;
+use ds_plans::{Ending, Stop, give_up, sub_block, subs_of};
 
 /// The bitmaps without all items of an object, to be written; otherwise what a planner asks for, or answers, before it knows them.
-pub fn object_given(geom: &Geom, seen: &Seen, kind: NodeKind, body: &Body) -> Result<Redo, Ask>
+pub fn object_given(geom: &Geom, seen: &Seen, kind: NodeKind, body: &Body) -> Result<Redo, Stop>
     requires geom { IsGeom geom.now }
     requires inside { body.now.object < items_of geom.now Fd }
     ensures answer { (p : Parts) → Reads geom.now (look_of seen.now) p
@@ -34,7 +33,7 @@ pub fn object_given(geom: &Geom, seen: &Seen, kind: NodeKind, body: &Body) -> Re
     }
 }
 
-fn dir_given(geom: &Geom, seen: &Seen, dir: &Body) -> Result<Redo, Ask>
+fn dir_given(geom: &Geom, seen: &Seen, dir: &Body) -> Result<Redo, Stop>
     requires geom { IsGeom geom.now }
     requires inside { dir.now.object < items_of geom.now Fd }
     ensures answer { (p : Parts) → Reads geom.now (look_of seen.now) p → result ≡ dir_given geom.now seen.now p dir.now }
@@ -46,7 +45,7 @@ fn dir_given(geom: &Geom, seen: &Seen, dir: &Body) -> Result<Redo, Ask>
     give_up(geom, seen, Kind::Sb, subs_of(dir), at, redo)
 }
 
-fn file_given(geom: &Geom, seen: &Seen, file: &Body) -> Result<Redo, Ask>
+fn file_given(geom: &Geom, seen: &Seen, file: &Body) -> Result<Redo, Stop>
     requires geom { IsGeom geom.now }
     requires inside { file.now.object < items_of geom.now Fd }
     ensures answer { (p : Parts) → Reads geom.now (look_of seen.now) p → result ≡ file_given geom.now seen.now p file.now }
@@ -60,7 +59,7 @@ fn file_given(geom: &Geom, seen: &Seen, file: &Body) -> Result<Redo, Ask>
 }
 
 /// A directory of which no sub-block has an entry.
-fn empty_known(geom: &Geom, seen: &Seen, dir: &Body) -> Result<Body, Ask>
+fn empty_known(geom: &Geom, seen: &Seen, dir: &Body) -> Result<Body, Stop>
     requires geom { IsGeom geom.now }
     requires inside { dir.now.object < items_of geom.now Fd }
     ensures { (p : Parts) → Reads geom.now (look_of seen.now) p
@@ -69,7 +68,7 @@ fn empty_known(geom: &Geom, seen: &Seen, dir: &Body) -> Result<Body, Ask>
     for number in subs_of(dir) {
         let block = sub_block(geom, seen, dir, *number)?;
         if has_entry(&block.rooms) {
-            return Err(Ask::Done(TreeReply::NotEmpty));
+            return Err(Stop::Done(Ending::NotEmpty));
         }
     }
     Ok(*dir)

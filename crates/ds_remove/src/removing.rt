@@ -9,12 +9,12 @@ ghost use Rattle.ds_image.specs.SeenValues.{look_of};
 ghost use Rattle.ds_remove.specs.Answers.{answers_of, call_of, change_known, takes_object};
 ghost use Rattle.ds_tree.specs.CallNames.{HasNames};
 
-use crate::entries::{body_named, entry_known, sub_left};
+use crate::entries::{body_named, entry_known};
 use crate::objects::{ended, object_given};
 use ds_base::{Geom, Key, Name, NodeKind, SlotNo, Word};
 use ds_image::{Ask, Plan, Seen};
 use ds_jrnl::Redo;
-use ds_plans::{body_pair, dir_of_key, sub_pair};
+use ds_plans::{Stop, block_emptied, body_pair, dir_of_key, name_of, sub_pair};
 use ds_tree::{Call, CallOf, TreeReply};
 use std::marker::Model;
 
@@ -89,12 +89,12 @@ impl Remove {
     {
         match self.change_known(seen) {
             Ok(Removing { redo, key }) => Ask::Change(redo, TreeReply::Gone { key }),
-            Err(ask) => ask,
+            Err(stop) => stop.ask(),
         }
     }
 
     /// The change, or what is asked for before it is known.
-    fn change_known(&self, seen: &Seen) -> Result<Removing, Ask>
+    fn change_known(&self, seen: &Seen) -> Result<Removing, Stop>
         ensures answer { (p : Parts) → Reads self.now.geom (look_of seen.now) p
             → result ≡ change_known self.now.geom seen.now p self.now.dir self.now.name self.now.kind }
         ensures geom { IsGeom self.now.geom }
@@ -102,28 +102,14 @@ impl Remove {
     {
         let dir = dir_of_key(&self.geom, seen, &self.dir)?;
         let found = entry_known(&self.geom, seen, &dir, &self.name, self.kind)?;
-        let left = sub_left(&self.geom, seen, &dir, &found)?;
-        let body = body_named(&self.geom, seen, self.kind, &found.key, left.number)?;
+        let body = body_named(&self.geom, seen, self.kind, &found.key, found.sub)?;
         let mut redo = object_given(&self.geom, seen, self.kind, &body)?;
         redo.pairs.push(body_pair(&self.geom, &ended(&body)));
+        let (number, key) = (found.sub, found.key);
         redo.pairs
-            .push(sub_pair(&self.geom, left.number, &left.block));
-        Ok(Removing {
-            redo,
-            key: found.key,
-        })
+            .push(sub_pair(&self.geom, number, &block_emptied(found)));
+        Ok(Removing { redo, key })
     }
-}
-
-/// The name that a word is.
-fn name_of(word: &Word) -> Name
-    requires { IsName word.now }
-    ensures { result ≡ word.now }
-{
-    let Some(name) = Name::read(word) else {
-        unreachable!()
-    };
-    name
 }
 
 impl Plan for Remove {

@@ -11,21 +11,24 @@ use Rattle.ds_image.specs.Pending.{Pair}
 use Rattle.ds_image.specs.Planning.{Answers}
 use Rattle.ds_image.specs.SeenValues.{SeenValue}
 use Rattle.ds_image.specs.declared.asks.Ask.{Ask}
-use Rattle.ds_image.specs.declared.asks.Ask.TheVariants.{Odd, Done, Change}
+use Rattle.ds_image.specs.declared.asks.Ask.TheVariants.{Change}
 use Rattle.ds_layout.specs.Places.{place_sector}
 use Rattle.ds_layout.specs.declared.places.Place.TheVariants as places
 use Rattle.ds_plans.specs.Items.{number_of, wanted_item}
 use Rattle.ds_plans.specs.Redos.{redo_of}
-use Rattle.ds_plans.specs.Rooms.{entries_before, room_in}
+use Rattle.ds_plans.specs.Rooms.{room_for}
+use Rattle.ds_plans.specs.Stops.{ask_of}
 use Rattle.ds_plans.specs.declared.rooms.FreeRoom.{FreeRoom}
 use Rattle.ds_plans.specs.Bodies.{dir_of_key}
-use Rattle.ds_plans.specs.Entries.{found_in}
+use Rattle.ds_plans.specs.Entries.{wanted_entry}
 use Rattle.ds_plans.specs.Steps.{after}
 use Rattle.ds_plans.specs.declared.entries.Found.{Found}
-use Rattle.ds_rename.specs.NamedRooms.{room_named}
+use Rattle.ds_plans.specs.declared.stops.Ending.TheVariants as endings
+use Rattle.ds_plans.specs.declared.stops.Stop.{Stop}
+use Rattle.ds_plans.specs.declared.stops.Stop.TheVariants.{Odd, Done}
+use Rattle.ds_rename.specs.Entries.{entry_kept}
 use Rattle.ds_rename.specs.Redos.{pairs_kept, pairs_moved, pairs_grown}
 use Rattle.ds_rename.specs.declared.renaming.Moving.{Moving}
-use Rattle.ds_rename.specs.declared.rooms.NamedRoom.{NamedRoom}
 use Rattle.ds_tree.specs.declared.calls.CallOf.{CallOf}
 use Rattle.ds_tree.specs.declared.calls.CallOf.TheVariants as calls
 use Rattle.ds_tree.specs.declared.calls.TreeReply.TheVariants as replies
@@ -48,45 +51,42 @@ abbrev pub call_of : RenameValue → CallOf Key
 call_of plan = calls.Rename plan.dir plan.name plan.to plan.fresh
 
 -- the change that these pairs are
-abbrev pub moving : NamedRoom → List Pair → Moving
+abbrev pub moving : Found → List Pair → Moving
 moving from pairs = record { redo = redo_of pairs; key = from.key }
 
--- inside one directory the entry keeps its room, where no entry there has the new name
-abbrev pub kept_by : Geom → NamedRoom → List ℕ → Option Found → Result Moving Ask
-kept_by g from fresh None = Ok (moving from (pairs_kept g from fresh))
-kept_by g from fresh (Some found) = Err (Done replies.Exists)
-
-abbrev pub kept_known : Geom → SeenValue → Parts → Body → NamedRoom → List ℕ → Result Moving Ask
-kept_known g seen p dir from fresh = after (found_in g seen p dir fresh) (kept_by g from fresh)
+-- inside one directory the entry keeps its room
+abbrev pub kept_known : Geom → SeenValue → Parts → Body → List ℕ → List ℕ → Result Moving Stop
+kept_known g seen p dir name fresh = after (entry_kept g seen p dir name fresh) (λ from. Ok (moving from (pairs_kept g from fresh)))
 
 -- a sub-block for the entry, which isn't the one that it has: that one is listed by its own directory alone, and isn't free
-abbrev pub other_sub : Geom → NamedRoom → ℕ → Result ℕ Ask
+abbrev pub other_sub : Geom → Found → ℕ → Result ℕ Stop
 other_sub g from n = if from.sub == n then Err (Odd (place_sector g (places.SubBlock n))) else Ok n
 
 -- in another directory it gets the first free room, or else the first of a new sub-block
-abbrev pub moved_by : Geom → ℕ → SeenValue → Parts → Body → NamedRoom → List ℕ → Option FreeRoom → Result Moving Ask
+abbrev pub moved_by : Geom → ℕ → SeenValue → Parts → Body → Found → List ℕ → Option FreeRoom → Result Moving Stop
 moved_by g slot seen p to from fresh (Some free) = after (other_sub g from free.sub) (λ n. Ok (moving from (pairs_moved g from free fresh)))
 moved_by g slot seen p to from fresh None =
     after (wanted_item g slot seen p Sb) (λ sub.
     after (other_sub g from (number_of g Sb sub)) (λ n. Ok (moving from (pairs_grown g from to sub fresh))))
 
 -- so it does where it is a file's, no entry there has the new name, and that directory isn't full
-abbrev pub moved_known : Geom → ℕ → SeenValue → Parts → Body → NamedRoom → List ℕ → NodeKind → Result Moving Ask
-moved_known g slot seen p to from fresh kinds.Dir = Err (Done replies.CrossDir)
+abbrev pub moved_known : Geom → ℕ → SeenValue → Parts → Body → Found → List ℕ → NodeKind → Result Moving Stop
+moved_known g slot seen p to from fresh kinds.Dir = Err (Done endings.CrossDir)
 moved_known g slot seen p to from fresh kinds.File =
-    after (entries_before g seen p to fresh) (λ count. after (room_in g seen p to) (λ free. moved_by g slot seen p to from fresh free))
+    after (room_for g seen p to fresh) (λ free. moved_by g slot seen p to from fresh free)
 
 -- the change is known once both directories are, and the entry, and a room for it
-abbrev pub change_known : Geom → ℕ → SeenValue → Parts → Key → List ℕ → Key → List ℕ → Result Moving Ask
+abbrev pub change_known : Geom → ℕ → SeenValue → Parts → Key → List ℕ → Key → List ℕ → Result Moving Stop
 change_known g slot seen p key name to_key fresh =
     after (dir_of_key g seen p key) (λ dir.
     after (dir_of_key g seen p to_key) (λ to.
-    after (room_named g seen p dir name) (λ from.
-    if key.object == to_key.object then kept_known g seen p dir from fresh else moved_known g slot seen p to from fresh from.kind)))
+    if key.object == to_key.object
+    then kept_known g seen p dir name fresh
+    else after (wanted_entry g seen p dir name) (λ from. moved_known g slot seen p to from fresh from.kind)))
 
-abbrev pub changed : Result Moving Ask → Ask
+abbrev pub changed : Result Moving Stop → Ask
 changed (Ok moving) = Change moving.redo (replies.Moved moving.key)
-changed (Err ask) = ask
+changed (Err stop) = ask_of stop
 
 -- what the planner asks for
 abbrev pub answers_of : RenameValue → Answers

@@ -43,19 +43,19 @@ use Rattle.ds_plans.specs.Entries.{found_in}
 use Rattle.ds_plans.specs.Items.{number_of, map_taken}
 use Rattle.ds_plans.specs.Objects.{CanGrow}
 use Rattle.ds_plans.specs.PlanAsks.{IsPlanChange, HasItem, HasWhole}
-use Rattle.ds_plans.specs.Redos.{body_grown, block_filled, block_alone, body_pair, map_pair, sub_pair}
+use Rattle.ds_plans.specs.Redos.{block_emptied, body_grown, block_filled, block_alone, body_pair, map_pair, sub_pair}
+use Rattle.ds_plans.specs.declared.entries.Found.{Found}
 use Rattle.ds_plans.specs.declared.items.FreeItem.{FreeItem}
 use Rattle.ds_plans.specs.declared.rooms.FreeRoom.{FreeRoom}
+use Rattle.ds_plans.proofs.Founds.{HasFound}
 use Rattle.ds_plans.proofs.Alike.{sub_alike}
 use Rattle.ds_plans.proofs.Dirs.{dir_in}
 use Rattle.ds_plans.proofs.Known.{HasBlock, HasRoom}
 use Rattle.ds_plans.proofs.Limits.{map_alike}
 use Rattle.ds_plans.proofs.NewBodies.{item-within, grown-is_body}
 use Rattle.ds_plans.proofs.Wholes.{subs-known, names-lack, rooms-same, entries-absent}
-use Rattle.ds_rename.specs.FoundRooms.{HasFound}
-use Rattle.ds_rename.specs.Redos.{entry_moved, block_renamed, block_emptied, subs_in_order, pairs_kept, pairs_moved, pairs_grown}
+use Rattle.ds_rename.specs.Redos.{entry_moved, block_renamed, subs_in_order, pairs_kept, pairs_moved, pairs_grown}
 use Rattle.ds_rename.specs.Targets.{kept-targets, crossed-targets, grown-targets}
-use Rattle.ds_rename.specs.declared.rooms.NamedRoom.{NamedRoom}
 use Rattle.ds_tree.specs.Nodes.{FileTree}
 use Rattle.ds_tree.specs.declared.calls.CallOf.{CallOf}
 use Rattle.ds_tree.specs.declared.calls.CallOf.TheVariants as calls
@@ -89,7 +89,7 @@ subs-as g n a m b true e =
     ap (λ test. if test then sub_pair g n a ∷ sub_pair g m b ∷ [] else sub_pair g m b ∷ sub_pair g n a ∷ []) e
 
 module _ (g : Geom) (is_geom : IsGeom g) (key : Key) (name : List ℕ) (to_key : Key) (fresh : List ℕ) (named : IsName fresh)
-    (seen : SeenValue) (p : Parts) (reads : Reads g (look_of seen) p) (dir : Body) (has : HasDir g seen p key dir) (from : NamedRoom) (room : HasFound g seen p dir name from) where
+    (seen : SeenValue) (p : Parts) (reads : Reads g (look_of seen) p) (dir : Body) (has : HasDir g seen p key dir) (from : Found) (room : HasFound g seen p dir name (subs_of (Some dir)) from) where
   abbrev call : CallOf Key
   call = calls.Rename key name to_key fresh
 
@@ -139,7 +139,7 @@ module _ (g : Geom) (is_geom : IsGeom g) (key : Key) (name : List ℕ) (to_key :
         there = (dir_in g seen p key dir image t stands reads agrees has).0;
         is_dir = has.sees.is_kind;
         absent = subst (λ l. maps.get (entries_of stands.parts l) fresh ≡ None) subs-are
-            (entries-absent g key seen p reads dir has fresh (subs-known g seen p reads dir fresh 0 subs lacks) (names-lack g seen p reads dir fresh 0 subs lacks) image t stands agrees);
+            (entries-absent g key seen p reads dir has fresh (subs-known g seen p reads dir fresh subs lacks) (names-lack g seen p reads dir fresh subs lacks) image t stands agrees);
       };
       life = has.sees.life;
       to_life = has_to.sees.life;

@@ -1,9 +1,8 @@
 pub mod Answers
 pub mod Changes
-pub mod FoundRooms
+pub mod Entries
 pub mod Holding
 pub mod Laws
-pub mod NamedRooms
 pub mod Redos
 pub mod Refusals
 pub mod Targets

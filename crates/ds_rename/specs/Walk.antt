@@ -34,31 +34,31 @@ use Rattle.ds_layout.specs.declared.places.Place.TheVariants as places
 use Rattle.ds_plans.specs.Bodies.{dir_of_key}
 use Rattle.ds_plans.specs.DirAsks.{DirAsks, FitsNone}
 use Rattle.ds_plans.specs.DirSeen.{HasDir, IsFoundIn, said_found, said_entry}
-use Rattle.ds_plans.specs.Entries.{entry_named, found_in}
+use Rattle.ds_plans.specs.Entries.{entry_named, found_in, entry_by, wanted_entry}
 use Rattle.ds_plans.specs.Goes.{Goes}
 use Rattle.ds_plans.specs.Items.{free_item, number_of, wanted_item}
 use Rattle.ds_plans.specs.Locks.{Needs, keys_of, sub_block_for_name}
 use Rattle.ds_plans.specs.Objects.{CanGrow}
 use Rattle.ds_plans.specs.PlanAsks.{PlanAsks, IsPlanChange, HasItem, HasWhole}
-use Rattle.ds_plans.specs.Rooms.{entries_before, room_in}
+use Rattle.ds_plans.specs.Rooms.{room_in, room_for}
 use Rattle.ds_plans.specs.Steps.{after}
 use Rattle.ds_plans.specs.declared.entries.Found.{Found}
 use Rattle.ds_plans.specs.declared.rooms.FreeRoom.{FreeRoom}
 use Rattle.ds_plans.proofs.Dirs.{dir_goes_in, dir_in}
 use Rattle.ds_plans.proofs.Finding.{find_goes, named-find}
+use Rattle.ds_plans.proofs.Founds.{HasFound, found-known}
 use Rattle.ds_plans.proofs.Going.{goes-after, goes-if}
 use Rattle.ds_plans.proofs.ItemWalk.{goes-known, wanted_goes}
 use Rattle.ds_plans.proofs.Known.{room-place, rooms-full}
-use Rattle.ds_plans.proofs.Wholes.{goes-other, as-plan, dir-node, entries-count, entries-absent, counts-known, rooms-known, takes, whole_goes, dir_known-goes}
-use Rattle.ds_rename.specs.Answers.{moving, kept_by, kept_known, other_sub, moved_by, moved_known, change_known, changed}
+use Rattle.ds_plans.proofs.Wholes.{goes-other, as-plan, dir-node, entries-count, entries-absent, counts-known, takes, room_goes, dir_known-goes}
+use Rattle.ds_plans.specs.declared.stops.Stop.{Stop}
+use Rattle.ds_rename.specs.Answers.{moving, kept_known, other_sub, moved_by, moved_known, change_known, changed}
 use Rattle.ds_rename.specs.Changes.{kept-good, room-odd, moved-good, item-odd, grown-good}
-use Rattle.ds_rename.specs.FoundRooms.{HasFound, found-block, found-room}
+use Rattle.ds_rename.specs.Entries.{kept_by, entry_kept}
 use Rattle.ds_rename.specs.Holding.{MayHold, the_dir, the_other, a_cluster, MayRead, of_dir, of_other, of_cluster}
-use Rattle.ds_rename.specs.NamedRooms.{room_found, sub_of, room_by, room_named}
 use Rattle.ds_rename.specs.Redos.{pairs_moved, pairs_grown}
 use Rattle.ds_rename.specs.Refusals.{HasNamed, entry-in_tree, missing, no_dir, to-missing, to-no_dir, no-entry, crosses, there-inside, there-across, full-across, no-room}
 use Rattle.ds_rename.specs.declared.renaming.Moving.{Moving}
-use Rattle.ds_rename.specs.declared.rooms.NamedRoom.{NamedRoom}
 use Rattle.ds_tree.specs.Counts.{free_of}
 use Rattle.ds_tree.specs.Nodes.{Entries, Dir, FileTree, node_of_key}
 use Rattle.ds_tree.specs.Steps.{Does, is_full}
@@ -157,50 +157,55 @@ module _ (g : Geom) (is_geom : IsGeom g) (slot : ℕ) (key : Key) (name : List �
 
       -- the entry
 
-      abbrev IsSaid : NamedRoom → Type 0
+      abbrev IsSaid : Found → Type 0
       IsSaid from =
           (image : List Sector) (t : FileTree) (stands : StandsFor g image t) → Agrees seen image → HasNamed t (entries_of stands.parts subs) name from.kind
 
-      abbrev Knows : NamedRoom → Type 0
-      Knows from = HasFound g seen p dir name from × IsSaid from
+      abbrev Knows : Found → Type 0
+      Knows from = HasFound g seen p dir name subs from × IsSaid from
 
-      room-by : (found : Option Found) → IsFoundIn g seen subs name found → found_in g seen p dir name ≡ Ok found → Goes Good (room_by g seen p dir found) Knows
-      room-by None none e = record {
+      entry-by : (found : Option Found) → IsFoundIn g seen subs name found → found_in g seen p dir name ≡ Ok found → Goes Good (entry_by found) Knows
+      entry-by None none e = record {
         block = tt;
         does = λ image t stands agrees.
             no-entry g t key name to_key fresh (entries_of stands.parts subs) (4 * dir.count) (dir-is image t stands agrees)
             (entries_of stands.parts (subs_of (Some to))) (4 * to.count) (to-is image t stands agrees)
             (absent-by stands.parts (entry_named (used_rooms stands.parts subs) name) refl (none image t stands agrees));
       }
-      room-by (Some f) found e =
-          let block = found-block g seen p reads dir name f e in
-          subst (λ r. Goes Good (after r (λ block. Ok (room_found (sub_of dir f) block f))) Knows) (sym block.1)
-          (found-room g seen p reads dir name f block.0 e block.1, named-in name f found)
+      entry-by (Some f) found e = (found-known g seen p reads dir name subs f e, named-in name f found)
 
-      room-goes : Goes Good (room_named g seen p dir name) Knows
-      room-goes = goes-after Good (Finds name) Knows (found_in g seen p dir name) _ (find-goes name) (λ found is. room-by found is.0 is.1)
+      entry-goes : Goes Good (wanted_entry g seen p dir name) Knows
+      entry-goes = goes-after Good (Finds name) Knows (found_in g seen p dir name) _ (find-goes name) (λ found is. entry-by found is.0 is.1)
 
-      module _ (from : NamedRoom) (room : HasFound g seen p dir name from) (said : IsSaid from) where
-        -- Inside one directory
+      -- Inside one directory
 
-        kept-by : (has_same : HasDir g seen p to_key dir) → key.object ≡ to_key.object → (found : Option Found) → Finds fresh found → Goes Good (kept_by g from fresh found) Done_well
-        kept-by has_same same None is =
-            kept-good g is_geom key name to_key fresh named seen p reads dir has from room has_same same is.1
-        kept-by has_same same (Some f) is = record {
-          block = tt;
-          does = λ image t stands agrees.
-              there-inside g t key name to_key fresh (entries_of stands.parts subs) (4 * dir.count) (dir-is image t stands agrees)
-              (entries_of stands.parts subs) (4 * dir.count) (dir-node g to_key seen p reads dir has_same image t stands agrees)
-              from.kind (said image t stands agrees) same (named-in fresh f is.0 image t stands agrees).there;
-        }
+      abbrev Stays : Found → Type 0
+      Stays from = Knows from × (found_in g seen p dir fresh ≡ Ok None)
 
-        kept-goes : key.object ≡ to_key.object → Goes Good (kept_known g seen p dir from fresh) Done_well
-        kept-goes same =
-            let bodies : Some to ≡ Some dir = sym has_to.sees.there ∙ ap (λ o. part_at p.bodies o) (sym same) ∙ has.sees.there in
-            let one : to ≡ dir = cc in
-            let has_same : HasDir g seen p to_key dir = subst (HasDir g seen p to_key) one has_to in
-            goes-after Good (Finds fresh) Done_well (found_in g seen p dir fresh) _ (find-goes fresh) (λ found is. kept-by has_same same found is)
+      kept-by : (has_same : HasDir g seen p to_key dir) → key.object ≡ to_key.object → (from : Found) → Knows from → (found : Option Found) → Finds fresh found
+          → Goes Good (kept_by from found) Stays
+      kept-by has_same same from known None is = (known, is.1)
+      kept-by has_same same from known (Some f) is = record {
+        block = tt;
+        does = λ image t stands agrees.
+            there-inside g t key name to_key fresh (entries_of stands.parts subs) (4 * dir.count) (dir-is image t stands agrees)
+            (entries_of stands.parts subs) (4 * dir.count) (dir-node g to_key seen p reads dir has_same image t stands agrees)
+            from.kind (known.1 image t stands agrees) same (named-in fresh f is.0 image t stands agrees).there;
+      }
 
+      kept-goes : key.object ≡ to_key.object → Goes Good (kept_known g seen p dir name fresh) Done_well
+      kept-goes same =
+          let bodies : Some to ≡ Some dir = sym has_to.sees.there ∙ ap (λ o. part_at p.bodies o) (sym same) ∙ has.sees.there in
+          let one : to ≡ dir = cc in
+          let has_same : HasDir g seen p to_key dir = subst (HasDir g seen p to_key) one has_to in
+          goes-after Good Stays Done_well (entry_kept g seen p dir name fresh) _
+          (goes-after Good Knows Stays (wanted_entry g seen p dir name) _ entry-goes
+          (λ from known.
+          goes-after Good (Finds fresh) Stays (found_in g seen p dir fresh) _ (find-goes fresh) (λ found is. kept-by has_same same from known found is)))
+          (λ from is.
+          kept-good g is_geom key name to_key fresh named seen p reads dir has from is.0.0 has_same same is.1)
+
+      module _ (from : Found) (room : HasFound g seen p dir name subs from) (said : IsSaid from) where
         -- Into another directory
 
         -- a sub-block for the entry is another than its own
@@ -227,12 +232,12 @@ module _ (g : Geom) (is_geom : IsGeom g) (slot : ℕ) (key : Key) (name : List �
             file-said : (image : List Sector) (t : FileTree) (stands : StandsFor g image t) → Agrees seen image → HasNamed t (entries_of stands.parts subs) name kinds.File
             file-said image t stands agrees = subst (HasNamed t (entries_of stands.parts subs) name) is_file (said image t stands agrees)
 
-            abbrev IsWhole : Type 0
-            IsWhole = HasWhole g seen p to_key fresh to × (found_in g seen p to fresh ≡ Ok None)
+            abbrev HasPlace : Option FreeRoom → Type 0
+            HasPlace r = HasWhole g seen p to_key fresh to × (found_in g seen p to fresh ≡ Ok None) × (room_in g seen p to ≡ Ok r)
 
-            whole-goes : Goes Good (entries_before g seen p to fresh) (λ count. IsWhole)
-            whole-goes =
-                whole_goes g slot call Holds HasRead to_key fresh seen p reads to has_to names_to the_other (λ at any. of_other at any)
+            place-goes : Goes Good (room_for g seen p to fresh) HasPlace
+            place-goes =
+                room_goes g slot call Holds HasRead to_key fresh seen p reads to has_to names_to the_other (λ at any. of_other at any)
                 (λ image t stands agrees entries rooms is there.
                 there-across g t key name to_key fresh (entries_of stands.parts subs) (4 * dir.count) (dir-is image t stands agrees) entries rooms is
                 (file-said image t stands agrees) apart there)
@@ -249,7 +254,7 @@ module _ (g : Geom) (is_geom : IsGeom g) (slot : ℕ) (key : Key) (name : List �
                 full : length (used_rooms p others) ≡ 4 * to.count
                 full =
                     let count = length (used_rooms p others) in
-                    let counted = rooms-full g seen p reads to others 0 (0 + count) none (counts-known g seen p reads to fresh 0 0 others lacks) in
+                    let counted = rooms-full g seen p reads to others 0 (0 + count) none (counts-known g seen p reads to fresh 0 others lacks) in
                     let body = body_is g (look_of seen) p to_key.object to reads has_to.sees.there in
                     let are : others ≡ subs_by to (Some kinds.Dir) = ap (subs_by to) has_to.sees.is_kind in
                     let most : to.count ≤ 96 = subst (λ k. to.count ≤ most_count k) has_to.sees.is_kind body.ranges.count_to in
@@ -297,34 +302,28 @@ module _ (g : Geom) (is_geom : IsGeom g) (slot : ℕ) (key : Key) (name : List �
                   (room-odd g is_geom key name to_key fresh named seen p reads dir has from room to whole apart is_file free place)
                   (moved-good g is_geom key name to_key fresh named seen p reads dir has from room to whole apart is_file free place)
 
-              moved-rest : Goes Good (after (room_in g seen p to) (λ free. moved_by g slot seen p to from fresh free)) Done_well
-              moved-rest =
-                  let found = rooms-known g seen p reads to fresh 0 others lacks in
-                  subst (λ r. Goes Good (after r (λ free. moved_by g slot seen p to from fresh free)) Done_well) (sym found.1) (moved-room found.0 found.1)
-
           moved-goes : (kind : NodeKind) → from.kind ≡ kind → Goes Good (moved_known g slot seen p to from fresh kind) Done_well
           moved-goes kinds.Dir is = crosses-good is
           moved-goes kinds.File is =
-              goes-after Good (λ count. IsWhole is) Done_well (entries_before g seen p to fresh) _ (whole-goes is) (λ count known. moved-rest is known.0 known.1)
+              goes-after Good (HasPlace is) Done_well (room_for g seen p to fresh) _ (place-goes is) (λ free known. moved-room is known.0 known.1 free known.2)
 
-        known-by : Goes Good (if key.object == to_key.object then kept_known g seen p dir from fresh else moved_known g slot seen p to from fresh from.kind) Done_well
-        known-by =
-            goes-if Good Done_well (key.object == to_key.object) _ _
-            (λ same. kept-goes (let one : key.object ≡ to_key.object = grind (arith, nat_tests, same) in one))
-            (λ other. moved-goes (differ key.object to_key.object other) from.kind refl)
+      known-by : Goes Good (if key.object == to_key.object then kept_known g seen p dir name fresh else after (wanted_entry g seen p dir name) (λ from. moved_known g slot seen p to from fresh from.kind)) Done_well
+      known-by =
+          goes-if Good Done_well (key.object == to_key.object) _ _
+          (λ same. kept-goes (let one : key.object ≡ to_key.object = grind (arith, nat_tests, same) in one))
+          (λ other.
+          goes-after Good Knows Done_well (wanted_entry g seen p dir name) _ entry-goes
+          (λ from is. moved-goes from is.0 is.1 (differ key.object to_key.object other) from.kind refl))
 
   known-goes : Goes Good (change_known g slot seen p key name to_key fresh) Done_well
   known-goes =
       goes-after Good (HasDir g seen p key) Done_well (dir_of_key g seen p key) _ dir-goes
       (λ dir has.
-      goes-after Good (HasDir g seen p to_key) Done_well (dir_of_key g seen p to_key) _ (to-goes dir has)
-      (λ to has_to.
-      goes-after Good (Knows dir has to has_to) Done_well (room_named g seen p dir name) _ (room-goes dir has to has_to)
-      (λ from is. known-by dir has to has_to from is.0 is.1)))
+      goes-after Good (HasDir g seen p to_key) Done_well (dir_of_key g seen p to_key) _ (to-goes dir has) (λ to has_to. known-by dir has to has_to))
 
-  settled : (r : Result Moving Ask) → Goes Good r Done_well → Good (changed r)
+  settled : (r : Result Moving Stop) → Goes Good r Done_well → Good (changed r)
   settled (Ok moving) is = is
-  settled (Err ask) good = good
+  settled (Err stop) good = good
 
   -- all that is asked for is good
   pub rename_asks : Good (changed (change_known g slot seen p key name to_key fresh))

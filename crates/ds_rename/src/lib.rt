@@ -2,8 +2,10 @@
 //! writes.
 #![tactic(auto)]
 
+mod entries;
 mod redos;
 mod renaming;
-mod rooms;
+#[cfg(test)]
+mod tests;
 
 pub use renaming::Rename;

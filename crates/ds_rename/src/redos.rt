@@ -1,30 +1,27 @@
 //! What is written to rename an entry.
 ghost use Rattle.std.specs.Prelude.{◌≡◌, ◌<◌, [], ◌∷◌};
 ghost use Rattle.ds_base.specs.Geometry.{IsGeom, items_of};
-ghost use Rattle.ds_base.specs.Names.{IsName};
 ghost use Rattle.ds_base.specs.declared.geometry.Kind.TheVariants.{Fd, Sb};
 ghost use Rattle.ds_dir.specs.SubBlock.{IsEntry, IsSubBlock};
 ghost use Rattle.ds_plans.specs.Items.{IsFreeItem};
-ghost use Rattle.ds_plans.specs.Objects.{CanGrow, IsFreeRoom};
+ghost use Rattle.ds_plans.specs.Objects.{CanGrow, IsFoundRoom, IsFreeRoom};
 ghost use Rattle.ds_plans.specs.Redos.{redo_of};
-ghost use Rattle.ds_rename.specs.NamedRooms.{IsNamedRoom};
-ghost use Rattle.ds_rename.specs.Redos.{block_emptied, block_renamed, entry_moved, pairs_grown, pairs_kept, pairs_moved, subs_in_order};
+ghost use Rattle.ds_rename.specs.Redos.{block_renamed, entry_moved, pairs_grown, pairs_kept, pairs_moved, subs_in_order};
 
-use crate::rooms::NamedRoom;
 use arrayvec::ArrayVec;
 use ds_base::{Geom, Kind, Name, Sector, SectorNo};
 use ds_dir::{Entry, SubBlock};
 use ds_fd::Body;
 use ds_jrnl::Redo;
 use ds_plans::{
-    FreeItem, FreeRoom, block_alone, block_filled, body_grown, body_pair, map_pair, number_of,
-    sub_pair,
+    Found, FreeItem, FreeRoom, block_alone, block_emptied, block_filled, body_grown, body_pair,
+    copy_of, map_pair, number_of, sub_pair,
 };
 
 /// What is written where the entry keeps its room.
-pub fn redo_kept(geom: &Geom, from: NamedRoom, fresh: &Name) -> Redo
+pub fn redo_kept(geom: &Geom, from: Found, fresh: &Name) -> Redo
     requires geom { IsGeom geom.now }
-    requires from { IsNamedRoom from }
+    requires from { IsFoundRoom from }
     requires inside { from.sub < items_of geom.now Sb }
     ensures { result ≡ redo_of (pairs_kept geom.now from fresh.now) }
 {
@@ -35,9 +32,9 @@ pub fn redo_kept(geom: &Geom, from: NamedRoom, fresh: &Name) -> Redo
 }
 
 /// What is written where the entry gets a free room of another directory.
-pub fn redo_moved(geom: &Geom, from: NamedRoom, free: FreeRoom, fresh: &Name) -> Redo
+pub fn redo_moved(geom: &Geom, from: Found, free: FreeRoom, fresh: &Name) -> Redo
     requires geom { IsGeom geom.now }
-    requires from { IsNamedRoom from }
+    requires from { IsFoundRoom from }
     requires inside { from.sub < items_of geom.now Sb }
     requires room { IsFreeRoom free }
     requires sub { free.sub < items_of geom.now Sb }
@@ -55,9 +52,9 @@ pub fn redo_moved(geom: &Geom, from: NamedRoom, free: FreeRoom, fresh: &Name) ->
 }
 
 /// What is written where another directory gets a sub-block for the entry.
-pub fn redo_grown(geom: &Geom, from: NamedRoom, to: &Body, sub: FreeItem, fresh: &Name) -> Redo
+pub fn redo_grown(geom: &Geom, from: Found, to: &Body, sub: FreeItem, fresh: &Name) -> Redo
     requires geom { IsGeom geom.now }
-    requires from { IsNamedRoom from }
+    requires from { IsFoundRoom from }
     requires inside { from.sub < items_of geom.now Sb }
     requires to { CanGrow to.now }
     requires directory { to.now.object < items_of geom.now Fd }
@@ -100,8 +97,8 @@ fn subs_in_order(
 }
 
 /// The entry under another name.
-fn entry_moved(from: &NamedRoom, fresh: &Name) -> Entry
-    requires { IsNamedRoom from.now }
+fn entry_moved(from: &Found, fresh: &Name) -> Entry
+    requires { IsFoundRoom from.now }
     ensures moved { result ≡ entry_moved from.now fresh.now }
     ensures is_entry { IsEntry result }
 {
@@ -113,8 +110,8 @@ fn entry_moved(from: &NamedRoom, fresh: &Name) -> Entry
 }
 
 /// The entry's sub-block with the entry under another name.
-fn block_renamed(from: NamedRoom, fresh: &Name) -> SubBlock
-    requires { IsNamedRoom from }
+fn block_renamed(from: Found, fresh: &Name) -> SubBlock
+    requires { IsFoundRoom from }
     ensures renamed { result ≡ block_renamed from fresh.now }
     ensures is_sub { IsSubBlock result }
 {
@@ -122,25 +119,4 @@ fn block_renamed(from: NamedRoom, fresh: &Name) -> SubBlock
     let mut rooms = from.block.rooms;
     rooms[from.room] = Some(entry);
     SubBlock { rooms }
-}
-
-/// The entry's sub-block without the entry.
-fn block_emptied(from: NamedRoom) -> SubBlock
-    requires { IsNamedRoom from }
-    ensures emptied { result ≡ block_emptied from }
-    ensures is_sub { IsSubBlock result }
-{
-    let mut rooms = from.block.rooms;
-    rooms[from.room] = None;
-    SubBlock { rooms }
-}
-
-fn copy_of(name: &Name) -> Name
-    ensures same { result ≡ name.now }
-    ensures named { IsName name.now }
-{
-    let Some(copy) = Name::from_bytes(name.bytes()) else {
-        unreachable!()
-    };
-    copy
 }

@@ -8,17 +8,19 @@ ghost use Rattle.ds_image.specs.Readings.{Reads};
 ghost use Rattle.ds_fd.specs.Body.{IsBody};
 ghost use Rattle.ds_image.specs.SeenValues.{IsSeen, look_of};
 ghost use Rattle.ds_rename.specs.Answers.{IsRename, answers_of, call_of, change_known, kept_known, moved_known, other_sub};
-ghost use Rattle.ds_rename.specs.NamedRooms.{IsNamedRoom};
+ghost use Rattle.ds_plans.specs.Objects.{IsFoundRoom};
 ghost use Rattle.ds_tree.specs.CallNames.{HasNames};
 
+use crate::entries::entry_kept;
 use crate::redos::{redo_grown, redo_kept, redo_moved};
-use crate::rooms::{NamedRoom, room_named};
-use ds_base::{Geom, Key, Kind, Name, NodeKind, SlotNo, Word};
+use ds_base::{Geom, Key, Kind, Name, NodeKind, SlotNo};
 use ds_fd::Body;
 use ds_image::{Ask, Plan, Seen};
 use ds_jrnl::Redo;
 use ds_layout::{Place, sector_of};
-use ds_plans::{dir_of_key, entries_before, find, free_room, number_of, wanted_item};
+use ds_plans::{
+    Ending, Found, Stop, dir_of_key, name_of, number_of, room_for, wanted_entry, wanted_item,
+};
 use ds_tree::{Call, CallOf, TreeReply};
 use std::marker::Model;
 
@@ -88,12 +90,12 @@ impl Rename {
     {
         match self.change_known(seen) {
             Ok(Moving { redo, key }) => Ask::Change(redo, TreeReply::Moved { key }),
-            Err(ask) => ask,
+            Err(stop) => stop.ask(),
         }
     }
 
     /// The change, or what is asked for before it is known.
-    fn change_known(&self, seen: &Seen) -> Result<Moving, Ask>
+    fn change_known(&self, seen: &Seen) -> Result<Moving, Stop>
         ensures answer { (p : Parts) → Reads self.now.geom (look_of seen.now) p
             → result ≡ change_known self.now.geom self.now.slot seen.now p self.now.dir self.now.name self.now.to self.now.fresh }
         ensures geom { IsGeom self.now.geom }
@@ -101,13 +103,15 @@ impl Rename {
         ensures fresh { IsName self.now.fresh }
     {
         let dir = dir_of_key(&self.geom, seen, &self.dir)?;
-        let to = dir_of_key(&self.geom, seen, &self.to)?;
-        let from = room_named(&self.geom, seen, &dir, &self.name)?;
         if self.dir.object == self.to.object {
-            kept_known(&self.geom, seen, &dir, from, &self.fresh)
-        } else {
-            moved_known(&self.geom, self.slot, seen, &to, from, &self.fresh)
+            if self.to.birth != dir.birth {
+                return Err(Stop::Done(Ending::NoObject));
+            }
+            return kept_known(&self.geom, seen, &dir, &self.name, &self.fresh);
         }
+        let to = dir_of_key(&self.geom, seen, &self.to)?;
+        let from = wanted_entry(&self.geom, seen, &dir, &self.name)?;
+        moved_known(&self.geom, self.slot, seen, &to, from, &self.fresh)
     }
 }
 
@@ -116,19 +120,15 @@ fn kept_known(
     geom: &Geom,
     seen: &Seen,
     dir: &Body,
-    from: NamedRoom,
+    name: &Name,
     fresh: &Name,
-) -> Result<Moving, Ask>
+) -> Result<Moving, Stop>
     requires geom { IsGeom geom.now }
     requires dir { dir.now.object < items_of geom.now Fd }
-    requires from { IsNamedRoom from }
-    requires inside { from.sub < items_of geom.now Sb }
     ensures { (p : Parts) → Reads geom.now (look_of seen.now) p
-        → result ≡ kept_known geom.now seen.now p dir.now from fresh.now }
+        → result ≡ kept_known geom.now seen.now p dir.now name.now fresh.now }
 {
-    if find(geom, seen, dir, fresh)?.is_some() {
-        return Err(Ask::Done(TreeReply::Exists));
-    }
+    let from = entry_kept(geom, seen, dir, name, fresh)?;
     let key = from.key;
     Ok(Moving {
         redo: redo_kept(geom, from, fresh),
@@ -142,25 +142,25 @@ fn moved_known(
     slot: SlotNo,
     seen: &Seen,
     to: &Body,
-    from: NamedRoom,
+    from: Found,
     fresh: &Name,
-) -> Result<Moving, Ask>
+) -> Result<Moving, Stop>
     requires geom { IsGeom geom.now }
     requires seen { IsSeen seen.now }
     requires to { to.now.object < items_of geom.now Fd }
     requires is_body { IsBody to.now }
     requires is_dir { to.now.kind ≡ Some NodeKind.Dir }
-    requires from { IsNamedRoom from }
+    requires from { IsFoundRoom from }
     requires inside { from.sub < items_of geom.now Sb }
     ensures { (p : Parts) → Reads geom.now (look_of seen.now) p
         → result ≡ moved_known geom.now slot seen.now p to.now from fresh.now from.kind }
 {
     if from.kind == NodeKind::Dir {
-        return Err(Ask::Done(TreeReply::CrossDir));
+        return Err(Stop::Done(Ending::CrossDir));
     }
-    entries_before(geom, seen, to, fresh)?;
+    let free = room_for(geom, seen, to, fresh)?;
     let key = from.key;
-    let redo = match free_room(geom, seen, to)? {
+    let redo = match free {
         Some(free) => {
             other_sub(geom, &from, free.sub)?;
             redo_moved(geom, from, free, fresh)
@@ -176,26 +176,15 @@ fn moved_known(
 
 /// The number of a sub-block for the entry. The one that it has is no other directory's, and not free: where a volume says so,
 /// this one is odd.
-fn other_sub(geom: &Geom, from: &NamedRoom, number: u32) -> Result<u32, Ask>
+fn other_sub(geom: &Geom, from: &Found, number: u32) -> Result<u32, Stop>
     requires geom { IsGeom geom.now }
     requires inside { number < items_of geom.now Sb }
     ensures { result ≡ other_sub geom.now from.now number }
 {
     if from.sub == number {
-        return Err(Ask::Odd(sector_of(geom, &Place::SubBlock(number))));
+        return Err(Stop::Odd(sector_of(geom, &Place::SubBlock(number))));
     }
     Ok(number)
-}
-
-/// The name that a word is.
-fn name_of(word: &Word) -> Name
-    requires { IsName word.now }
-    ensures { result ≡ word.now }
-{
-    let Some(name) = Name::read(word) else {
-        unreachable!()
-    };
-    name
 }
 
 impl Plan for Rename {

@@ -9,6 +9,8 @@ use Rattle.ds_image.specs.SeenValues.{SeenValue}
 use Rattle.ds_image.specs.declared.asks.Ask.{Ask}
 use Rattle.ds_image.specs.declared.asks.Ask.TheVariants.{Change}
 use Rattle.ds_plans.specs.Steps.{after}
+use Rattle.ds_plans.specs.Stops.{ask_of}
+use Rattle.ds_plans.specs.declared.stops.Stop.{Stop}
 use Rattle.ds_space.specs.Files.{file_to_size}
 use Rattle.ds_space.specs.Growing.{growth_known}
 use Rattle.ds_space.specs.Redos.{redo_of}
@@ -34,15 +36,15 @@ IsResize (Resize file size) = Unit {0}
 IsResize _ = ⊥
 
 -- a file that may get the size grows or shrinks
-abbrev pub resized_by : Geom → ℕ → SeenValue → Parts → ℕ → Body → Result Resized Ask
+abbrev pub resized_by : Geom → ℕ → SeenValue → Parts → ℕ → Body → Result Resized Stop
 resized_by g slot seen p size b = if nat_lt b.count size then growth_known g slot seen p b size else shrink_known g seen p b size
 
-abbrev pub resize_known : Geom → ℕ → SeenValue → Parts → Key → ℕ → Result Resized Ask
+abbrev pub resize_known : Geom → ℕ → SeenValue → Parts → Key → ℕ → Result Resized Stop
 resize_known g slot seen p file size = after (file_to_size g seen p file size) (resized_by g slot seen p size)
 
-abbrev pub changed : Geom → ℕ → Result Resized Ask → Ask
+abbrev pub changed : Geom → ℕ → Result Resized Stop → Ask
 changed g size (Ok resized) = Change (redo_of g resized) (Sized size)
-changed g size (Err ask) = ask
+changed g size (Err stop) = ask_of stop
 
 -- what the planner asks for
 abbrev pub answers_of : SpaceValue → Answers

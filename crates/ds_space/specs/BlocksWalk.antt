@@ -8,7 +8,7 @@ use Rattle.std.proofs.lemmas.Cmp.{nat_eq_equiv}
 use Rattle.ds_base.specs.Decoding.{IsDecoded}
 use Rattle.ds_base.specs.Geometry.{items_of}
 use Rattle.ds_base.specs.declared.geometry.Geom.{Geom}
-use Rattle.ds_base.specs.declared.geometry.Kind.TheVariants.{Fd, Pb}
+use Rattle.ds_base.specs.declared.geometry.Kind.TheVariants.{Pb}
 use Rattle.ds_base.specs.declared.names.Key.{Key}
 use Rattle.ds_base.specs.declared.names.NodeKind.TheVariants as kinds
 use Rattle.ds_base.specs.declared.sectors.Sector.{Sector}
@@ -31,10 +31,10 @@ use Rattle.ds_plans.specs.Bodies.{part_seen}
 use Rattle.ds_plans.specs.Goes.{Goes}
 use Rattle.ds_plans.specs.Locks.{block_seen}
 use Rattle.ds_plans.specs.PlanAsks.{PlanAsks}
-use Rattle.ds_plans.specs.Steps.{after}
 use Rattle.ds_plans.proofs.Dirs.{body_in}
 use Rattle.ds_plans.proofs.Going.{goes-after, goes-if, goes-part}
 use Rattle.ds_plans.proofs.Limits.{or-left, or-right}
+use Rattle.ds_plans.specs.declared.stops.Stop.{Stop}
 use Rattle.ds_ptr.specs.PtrBlock.{IsPtrBlock, ptr_bytes}
 use Rattle.ds_ptr.specs.declared.ptr_block.PtrBlock.{PtrBlock}
 use Rattle.ds_sizes.specs.Pages.{ptrs_in, blocks_in}
@@ -43,15 +43,14 @@ use Rattle.ds_sizes.proofs.Paged.{ptrs-length, some-pointers}
 use Rattle.ds_sizes.proofs.PointerSectors.{pointer-listed, pointer-in_range, pointer-guard}
 use Rattle.ds_sizes.proofs.SpelledBlocks.{size-is, spelled-blocks}
 use Rattle.ds_space.specs.Below.{below-take, below-flat}
-use Rattle.ds_space.specs.Blocks.{pointer_seen, addresses_seen, blocks_of, blocks_seen, cut, pointers_in, pointers_from}
+use Rattle.ds_plans.specs.Pointers.{pointer_seen}
+use Rattle.ds_space.specs.Blocks.{addresses_seen, blocks_of, blocks_seen, cut, pointers_in, pointers_from}
 use Rattle.ds_space.specs.FileWalk.{HasFile}
 use Rattle.ds_space.specs.Holding.{MayHold, MayRead, of_pointer}
 use Rattle.ds_space.specs.PagesWritten.{dropped-at}
 use Rattle.ds_space.specs.SeenBlocks.{small-seen, large-seen}
 use Rattle.ds_space.specs.declared.blocks.Blocks.{Blocks}
-use Rattle.ds_tree.specs.Counts.{pointer_blocks}
 use Rattle.ds_tree.specs.Nodes.{FileTree}
-use Rattle.ds_tree.specs.declared.calls.CallOf.{CallOf}
 use Rattle.ds_tree.specs.declared.calls.CallOf.TheVariants.{Resize}
 
 -- two looks that have the same sector there have the same pointer block
@@ -174,8 +173,8 @@ module _ (g : Geom) (slot : ℕ) (key : Key) (size : ℕ) (seen : SeenValue) (p 
       each block got rest zero m at = let same : n ≡ m = cc in subst (λ m. (block : PtrBlock) × HasPtr g seen p m block) same (block, got)
       each block got rest (suc i) m at = rest i m at
 
-      more : (block : PtrBlock) → HasPtr g seen p n block → (r : Result Blocks Ask) → Goes Good r (Pointed (found ++ block.addresses) ns) → Goes Good r (Pointed found (n ∷ ns))
-      more block got (Err ask) good = good
+      more : (block : PtrBlock) → HasPtr g seen p n block → (r : Result Blocks Stop) → Goes Good r (Pointed (found ++ block.addresses) ns) → Goes Good r (Pointed found (n ∷ ns))
+      more block got (Err stop) good = good
       more block got (Ok blocks) is = (
         each block got is.0,
         is.1 ∙ append_assoc found block.addresses (flat_map pointed ns) ∙ ap (λ r. found ++ (addresses_in r ++ flat_map pointed ns)) (sym got.there),

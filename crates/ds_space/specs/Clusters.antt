@@ -1,5 +1,5 @@
 -- The clusters that are left, one after another.
-use Rattle.std.proofs.Common.{◌≡◌, ℕ, zero, suc, ◌+◌, ◌-◌, ◌*◌, ◌<◌, ◌≤◌, ◌==◌, inl, inr, true, false, nat_le, Some, List, [], ◌∷◌, ◌++◌, length, map, take, refl, sym, ap, subst, ◌∙◌, length-append, slice_get, arith}
+use Rattle.std.proofs.Common.{◌≡◌, ℕ, zero, suc, ◌+◌, ◌-◌, ◌*◌, ◌<◌, ◌≤◌, ◌==◌, inl, inr, true, false, nat_le, Some, List, [], ◌∷◌, ◌++◌, length, map, refl, sym, ap, subst, ◌∙◌, length-append, slice_get, arith}
 use Rattle.std.specs.Prelude.{Result, Ok, Err, slice_index}
 use Rattle.std.proofs.lemmas.Bool.{cases_lt, false≢true}
 use Rattle.std.proofs.Math.Nat.{mul-le-mul_right}
@@ -16,22 +16,22 @@ use Rattle.ds_bitmap.specs.Bits.{Bitmap, IsBits}
 use Rattle.ds_image.specs.Owned.{CanMark}
 use Rattle.ds_image.specs.Parts.{Parts}
 use Rattle.ds_image.specs.SeenValues.{SeenValue}
-use Rattle.ds_image.specs.declared.asks.Ask.{Ask}
-use Rattle.ds_image.specs.declared.asks.Ask.TheVariants.{Done}
 use Rattle.ds_layout.proofs.Bounds.{most_items_of}
 use Rattle.ds_plans.specs.Items.{map_seen}
 use Rattle.ds_plans.specs.Locks.{cluster_tried}
 use Rattle.ds_plans.specs.Steps.{after}
+use Rattle.ds_plans.specs.declared.stops.Ending.TheVariants as endings
+use Rattle.ds_plans.specs.declared.stops.Stop.{Stop}
+use Rattle.ds_plans.specs.declared.stops.Stop.TheVariants.{Done}
 use Rattle.ds_space.specs.Blocks.{AreItems}
-use Rattle.ds_space.specs.Taking.{items_from, lowest_clear, map_marked, map_pair, taken_of, taken_more}
+use Rattle.ds_space.specs.Taking.{items_from, lowest_clear, map_marked, map_pair, taken_more}
 use Rattle.ds_space.specs.declared.taking.Taken.{Taken}
-use Rattle.ds_tree.specs.declared.calls.TreeReply.TheVariants as replies
 
 module _ (g : Geom) (slot : ℕ) (seen : SeenValue) (p : Parts) (kind : Kind) (count : ℕ) (taken : Taken) where
   abbrev numbers : ℕ
   numbers = length taken.numbers.items
 
-  abbrev left : ℕ → Result Taken Ask
+  abbrev left : ℕ → Result Taken Stop
   left tried = items_from g slot seen p kind count taken tried (clusters_of g kind - tried)
 
   -- where enough are taken no more clusters are tried
@@ -43,14 +43,14 @@ module _ (g : Geom) (slot : ℕ) (seen : SeenValue) (p : Parts) (kind : Kind) (c
       by (suc n) test = rw test refl
 
   -- where all were tried there is no space
-  pub items-none : (tried : ℕ) → numbers < count → clusters_of g kind ≤ tried → left tried ≡ Err (Done (replies.NoSpace kind))
+  pub items-none : (tried : ℕ) → numbers < count → clusters_of g kind ≤ tried → left tried ≡ Err (Done (endings.NoSpace kind))
   items-none tried few all =
       let none : clusters_of g kind - tried ≡ 0 = omega (arith, all) in
       let test : nat_le count numbers ≡ false = grind (arith, nat_tests, few) in
       ap (items_from g slot seen p kind count taken tried) none ∙ (rw test refl)
 
   module _ (tried cluster : ℕ) (few : numbers < count) (l : tried < clusters_of g kind) (here : cluster ≡ cluster_tried g slot kind tried) where
-    abbrev next : Bitmap → Result Taken Ask
+    abbrev next : Bitmap → Result Taken Stop
     next map = items_from g slot seen p kind count
         (taken_more g kind (cluster_tried g slot kind tried) map (lowest_clear (count - numbers) map.used) taken) (suc tried) (clusters_of g kind - suc tried)
 
@@ -60,7 +60,7 @@ module _ (g : Geom) (slot : ℕ) (seen : SeenValue) (p : Parts) (kind : Kind) (c
         let test : nat_le count numbers ≡ false = grind (arith, nat_tests, few) in
         ap (items_from g slot seen p kind count taken tried) more ∙ (rw test refl)
 
-    pub items-err : (ask : Ask) → map_seen g seen p kind cluster ≡ Err ask → left tried ≡ Err ask
+    pub items-err : (stop : Stop) → map_seen g seen p kind cluster ≡ Err stop → left tried ≡ Err stop
     items-err ask is = items-step ∙ ap (λ r. after r next) (ap (map_seen g seen p kind) (sym here) ∙ is)
 
     pub items-more : (map : Bitmap) → map_seen g seen p kind cluster ≡ Ok map

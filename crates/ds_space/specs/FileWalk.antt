@@ -20,7 +20,7 @@ use Rattle.ds_image.specs.declared.asks.Ask.{Ask}
 use Rattle.ds_image.specs.declared.asks.Ask.TheVariants as asks
 use Rattle.ds_layout.specs.Places.{place_sector}
 use Rattle.ds_layout.specs.declared.places.Place.TheVariants as places
-use Rattle.ds_plans.specs.Bodies.{body_seen, body_alive, body_of_key}
+use Rattle.ds_plans.specs.Bodies.{body_seen, body_alive}
 use Rattle.ds_plans.specs.Goes.{Goes}
 use Rattle.ds_plans.specs.Locks.{SeesBody, of_key}
 use Rattle.ds_plans.specs.PlanAsks.{PlanAsks}
@@ -28,6 +28,9 @@ use Rattle.ds_plans.specs.Steps.{after}
 use Rattle.ds_plans.proofs.BodyWalk.{HasBody, body_goes}
 use Rattle.ds_plans.proofs.Dirs.{body_in}
 use Rattle.ds_plans.proofs.Going.{goes-after, goes-if}
+use Rattle.ds_plans.specs.declared.stops.Ending.TheVariants as endings
+use Rattle.ds_plans.specs.declared.stops.Stop.{Stop}
+use Rattle.ds_plans.specs.declared.stops.Stop.TheVariants as stops
 use Rattle.ds_sizes.proofs.Refused.{resize-past, resize-unused, resize-other_life, resize-dir, resize-too_big, resize-too_much, resize-same}
 use Rattle.ds_space.specs.Files.{difference, file_by, body_of_file, body_to_size, file_to_size}
 use Rattle.ds_space.specs.Holding.{MayHold, the_file, MayRead, of_file}
@@ -91,7 +94,7 @@ module _ (g : Geom) (slot : ℕ) (key : Key) (size : ℕ) (seen : SeenValue) (p 
 
     alive_goes : Goes Good (body_alive key b) Alive
     alive_goes =
-        goes-if Good Alive ((b.birth == key.birth) && is_some b.kind) (Ok b) (Err (asks.Done replies.NoObject))
+        goes-if Good Alive ((b.birth == key.birth) && is_some b.kind) (Ok b) (Err (stops.Done endings.NoObject))
         (λ alive. (refl, eq-of b.birth key.birth (left-true (b.birth == key.birth) (is_some b.kind) alive), right-true (b.birth == key.birth) (is_some b.kind) alive))
         dead_good
 
@@ -128,11 +131,11 @@ module _ (g : Geom) (slot : ℕ) (key : Key) (size : ℕ) (seen : SeenValue) (p 
 
         size_goes : Goes Good (body_to_size size b) (HasFile g seen p key size)
         size_goes =
-            goes-if Good (HasFile g seen p key size) (nat_lt 12288 size) (Err (asks.Done replies.TooBig)) _ big_good
+            goes-if Good (HasFile g seen p key size) (nat_lt 12288 size) (Err (stops.Done endings.TooBig)) _ big_good
             (λ small.
-            goes-if Good (HasFile g seen p key size) (nat_lt 1024 (difference size b.count)) (Err (asks.Done replies.TooMuch)) _ (much_good small)
+            goes-if Good (HasFile g seen p key size) (nat_lt 1024 (difference size b.count)) (Err (stops.Done endings.TooMuch)) _ (much_good small)
             (λ near.
-            goes-if Good (HasFile g seen p key size) (size == b.count) (Err (asks.Done (replies.Sized size))) (Ok b) same_good
+            goes-if Good (HasFile g seen p key size) (size == b.count) (Err (stops.Done (endings.Sized size))) (Ok b) same_good
             (λ other. record {
               inside = inside;
               held = held;
@@ -160,15 +163,15 @@ module _ (g : Geom) (slot : ℕ) (key : Key) (size : ℕ) (seen : SeenValue) (p 
     does = λ image t stands agrees. resize-past g image t stands key size (grind (arith, nat_tests, outside));
   }
 
-  after-twice : (r : Result Body Ask) (f h : Body → Result Body Ask) → after (after r f) h ≡ after r (λ b. after (f b) h)
+  after-twice : (r : Result Body Stop) (f h : Body → Result Body Stop) → after (after r f) h ≡ after r (λ b. after (f b) h)
   after-twice (Ok b) f h = refl
-  after-twice (Err ask) f h = refl
+  after-twice (Err stop) f h = refl
 
-  abbrev next_of : Body → Result Body Ask
+  abbrev next_of : Body → Result Body Stop
   next_of b = after (body_of_file b) (body_to_size size)
 
   held-by : key.object < items_of g Fd → (test : Bool) → has_lock seen key.object ≡ test
-      → Goes Good (after (if test then after (body_seen g seen p key.object) (body_alive key) else Err (asks.Lock key.object)) next_of) (HasFile g seen p key size)
+      → Goes Good (after (if test then after (body_seen g seen p key.object) (body_alive key) else Err (stops.Lock key.object)) next_of) (HasFile g seen p key size)
   held-by inside false free = lock_good inside free
   held-by inside true held =
       subst (λ r. Goes Good r (HasFile g seen p key size)) (sym (after-twice (body_seen g seen p key.object) (body_alive key) next_of))
@@ -177,8 +180,8 @@ module _ (g : Geom) (slot : ℕ) (key : Key) (size : ℕ) (seen : SeenValue) (p 
       (λ b has. rest_goes inside held b has))
 
   inside-by : (test : Bool) → nat_lt key.object (items_of g Fd) ≡ test
-      → Goes Good (after (if test then (if has_lock seen key.object then after (body_seen g seen p key.object) (body_alive key) else Err (asks.Lock key.object))
-      else Err (asks.Done replies.NoObject)) next_of) (HasFile g seen p key size)
+      → Goes Good (after (if test then (if has_lock seen key.object then after (body_seen g seen p key.object) (body_alive key) else Err (stops.Lock key.object))
+      else Err (stops.Done endings.NoObject)) next_of) (HasFile g seen p key size)
   inside-by false outside = outside_good outside
   inside-by true inside = held-by (grind (arith, nat_tests, inside)) (has_lock seen key.object) refl
 

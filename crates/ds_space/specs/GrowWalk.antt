@@ -1,6 +1,6 @@
 -- A planner of Resize whose file grows asks for what it may, and what it writes is right.
-use Rattle.std.proofs.Common.{◌≡◌, ℕ, zero, suc, ◌+◌, ◌-◌, ◌*◌, ◌/◌, ◌^◌, ◌<◌, ◌≤◌, Bool, true, false, inl, inr, nat_le, if◌then◌else◌, List, [], ◌∷◌, ◌++◌, length, map, take, drop, Some, refl, sym, ap, subst, ◌∙◌, slice_get, arith}
-use Rattle.std.specs.Prelude.{Result, Ok, All, slice_index}
+use Rattle.std.proofs.Common.{◌≡◌, ℕ, ◌+◌, ◌-◌, ◌*◌, ◌/◌, ◌^◌, ◌<◌, ◌≤◌, Bool, true, false, inl, inr, nat_le, if◌then◌else◌, List, [], ◌∷◌, ◌++◌, length, map, take, drop, Some, refl, sym, ap, subst, ◌∙◌, slice_get, arith}
+use Rattle.std.specs.Prelude.{All, slice_index}
 use Rattle.std.proofs.lemmas.Bool.{cases_lt}
 use Rattle.std.proofs.lemmas.Bool.Decides.{nat_tests}
 use Rattle.std.proofs.lemmas.List.{take_all, append-nil, drop-append-le}
@@ -32,17 +32,15 @@ use Rattle.ds_layout.specs.declared.places.Place.TheVariants as places
 use Rattle.ds_plans.specs.Goes.{Goes}
 use Rattle.ds_plans.specs.Locks.{MayGrow, blocks_for_size, pointers_for_size}
 use Rattle.ds_plans.specs.PlanAsks.{PlanAsks, IsPlanChange}
-use Rattle.ds_plans.specs.Steps.{after}
 use Rattle.ds_plans.proofs.Dirs.{body_in}
 use Rattle.ds_plans.proofs.GivingWalk.{map-in}
 use Rattle.ds_plans.proofs.Going.{goes-after}
-use Rattle.ds_ptr.specs.declared.ptr_block.PtrBlock.{PtrBlock}
 use Rattle.ds_sizes.specs.Pages.{ptrs_in, blocks_in}
 use Rattle.ds_sizes.specs.Planned.{GrowsFile, HasSize}
 use Rattle.ds_sizes.specs.Pointers.{WritesPages}
 use Rattle.ds_sizes.specs.Ready.{ReadyToResize, resize_parts}
 use Rattle.ds_sizes.specs.Resizing.{blocks_after}
-use Rattle.ds_sizes.specs.Takes.{Take, items_taken, maps_taken, Takes, SetsBits}
+use Rattle.ds_sizes.specs.Takes.{Take, items_taken, maps_taken, Takes}
 use Rattle.ds_sizes.specs.Written.{ArePairsOf}
 use Rattle.ds_sizes.proofs.BuiltPages.{sized-body, sized-pointers, sized-no_pointers}
 use Rattle.ds_sizes.proofs.Paged.{ptrs-length}
@@ -54,20 +52,20 @@ use Rattle.ds_sizes.proofs.WrittenPages.{pointers-once}
 use Rattle.ds_space.specs.Below.{below-append, below-take, below-padded, below-items}
 use Rattle.ds_space.specs.Blocks.{AreItems, blocks_seen, pointers_in, pointers_from}
 use Rattle.ds_space.specs.BlocksWalk.{HasOld, blocks_goes}
-use Rattle.ds_space.specs.Files.{CanResize, difference}
+use Rattle.ds_space.specs.Files.{CanResize}
 use Rattle.ds_space.specs.FileWalk.{HasFile}
 use Rattle.ds_space.specs.Growing.{grown, growth_known}
-use Rattle.ds_space.specs.GrownFacts.{grown-writable, has-size, blocks-length, pointers-length}
+use Rattle.ds_space.specs.GrownFacts.{grown-writable, has-size, pointers-length}
 use Rattle.ds_space.specs.Holding.{MayHold, MayRead, holds-pb, holds-fb, reads-pb, reads-fb}
 use Rattle.ds_space.specs.InOrder.{put_all_by, put_all-map, put_all-behind, sorted-from}
-use Rattle.ds_space.specs.ItemsWalk.{HasTaken, IsTakeOf, take_pair, items_goes, sees-free, enough-in, taken-is}
+use Rattle.ds_space.specs.ItemsWalk.{HasTaken, take_pair, items_goes, sees-free, enough-in, taken-is}
 use Rattle.ds_space.specs.Ordered.{put_all_in, in_order}
 use Rattle.ds_space.specs.OrderedPairs.{put_all-rises, put_all-all}
 use Rattle.ds_space.specs.PagesWritten.{pages-write}
 use Rattle.ds_space.specs.Redos.{pages_of, pairs_of, redo_of, used_by}
 use Rattle.ds_space.specs.RightSizes.{at-map, sector_of, in-order-are, marks-sorted, pages-sorted, size-right}
 use Rattle.ds_space.specs.SizeTargets.{maps-metadata, size-targets}
-use Rattle.ds_space.specs.Taking.{items_wanted, map_marked, IsTaken}
+use Rattle.ds_space.specs.Taking.{items_wanted, IsTaken}
 use Rattle.ds_space.specs.Writable.{IsWritable}
 use Rattle.ds_space.specs.declared.blocks.Blocks.{Blocks}
 use Rattle.ds_space.specs.declared.resized.Resized.{Resized}

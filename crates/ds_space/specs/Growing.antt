@@ -5,8 +5,8 @@ use Rattle.ds_base.specs.declared.geometry.Kind.TheVariants.{Pb, Fb}
 use Rattle.ds_fd.specs.declared.body.Body.{Body}
 use Rattle.ds_image.specs.Parts.{Parts}
 use Rattle.ds_image.specs.SeenValues.{SeenValue}
-use Rattle.ds_image.specs.declared.asks.Ask.{Ask}
 use Rattle.ds_plans.specs.Steps.{after}
+use Rattle.ds_plans.specs.declared.stops.Stop.{Stop}
 use Rattle.ds_space.specs.Blocks.{blocks_of, blocks_seen, pointers_in}
 use Rattle.ds_space.specs.Ordered.{in_order, put_all_in}
 use Rattle.ds_space.specs.Redos.{body_sized, used_by}
@@ -26,7 +26,7 @@ grown b size old added fresh = record {
 }
 
 -- it is known once its last page was read where that is partly filled, then the blocks are that it gets, and then the pointer blocks
-abbrev pub growth_known : Geom → ℕ → SeenValue → Parts → Body → ℕ → Result Resized Ask
+abbrev pub growth_known : Geom → ℕ → SeenValue → Parts → Body → ℕ → Result Resized Stop
 growth_known g slot seen p b size =
     after (blocks_seen g seen p b (b.count / 128)) (λ old.
     after (items_wanted g slot seen p Fb (size - b.count)) (λ added.

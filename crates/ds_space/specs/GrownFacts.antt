@@ -1,18 +1,17 @@
 -- A file that grows can be written.
-use Rattle.std.proofs.Common.{◌≡◌, ℕ, suc, ◌+◌, ◌-◌, ◌*◌, ◌/◌, ◌^◌, ◌<◌, ◌≤◌, inl, inr, Bool, true, false, nat_le, if◌then◌else◌, List, [], ◌++◌, length, take, drop, Some, refl, sym, ap, subst, ◌∙◌, length-append, length-drop, arith}
+use Rattle.std.proofs.Common.{◌≡◌, ℕ, ◌+◌, ◌-◌, ◌*◌, ◌/◌, ◌^◌, ◌<◌, ◌≤◌, inl, inr, Bool, true, false, nat_le, if◌then◌else◌, List, [], ◌++◌, length, drop, Some, refl, sym, ap, subst, ◌∙◌, length-append, length-drop, arith}
 use Rattle.std.proofs.lemmas.Bool.{cases_lt}
 use Rattle.std.proofs.lemmas.Bool.Decides.{nat_tests}
 use Rattle.std.proofs.lemmas.List.{drop-append-le}
-use Rattle.ds_base.specs.Geometry.{items_of}
 use Rattle.ds_base.specs.declared.geometry.Geom.{Geom}
-use Rattle.ds_base.specs.declared.geometry.Kind.TheVariants.{Fd, Pb, Fb}
+use Rattle.ds_base.specs.declared.geometry.Kind.TheVariants.{Pb, Fb}
 use Rattle.ds_base.specs.declared.names.NodeKind.TheVariants as kinds
 use Rattle.ds_bytes.specs.Fields.{AllBelow}
-use Rattle.ds_fd.specs.Body.{IsBody, addresses_used}
+use Rattle.ds_fd.specs.Body.{IsBody}
 use Rattle.ds_fd.specs.declared.body.Body.{Body}
 use Rattle.ds_sizes.specs.Planned.{HasSize}
 use Rattle.ds_sizes.proofs.BuiltPages.{sized-is_body, sized-pointers, sized-no_pointers}
-use Rattle.ds_sizes.proofs.Paged.{count-most, ptrs-length, few-pointers, some-pointers}
+use Rattle.ds_sizes.proofs.Paged.{ptrs-length, few-pointers, some-pointers}
 use Rattle.ds_sizes.proofs.ReadyFiles.{pointers-rise}
 use Rattle.ds_space.specs.Blocks.{AreItems, pointers_in, pointers_from}
 use Rattle.ds_space.specs.Files.{CanResize}

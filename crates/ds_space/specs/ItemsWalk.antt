@@ -1,8 +1,8 @@
 -- A planner that wants several items asks for what it may, and answers that there is no space where there is none.
-use Rattle.std.proofs.Common.{◌≡◌, ◌≢◌, ℕ, zero, suc, ◌+◌, ◌-◌, ◌*◌, ◌<◌, ◌≤◌, inl, inr, Bool, true, false, not, nat_le, cond, min, List, [], ◌∷◌, ◌++◌, length, map, take, Option, None, Some, refl, sym, ap, subst, ◌∙◌, length-append, length-take, slice_get, is_some, arith}
-use Rattle.std.specs.Prelude.{Result, Ok, Err, IsSome, slice_index_or}
-use Rattle.std.specs.List.{count_by, sum_by, flat_map}
-use Rattle.std.proofs.lemmas.Bool.{false≢true, cases_lt, cases_Bool}
+use Rattle.std.proofs.Common.{◌≡◌, ◌≢◌, ℕ, zero, suc, ◌+◌, ◌-◌, ◌*◌, ◌<◌, ◌≤◌, inl, inr, Bool, true, false, not, nat_le, cond, min, List, [], ◌∷◌, ◌++◌, length, map, None, Some, refl, sym, ap, subst, ◌∙◌, length-append, length-take, slice_get, is_some, arith}
+use Rattle.std.specs.Prelude.{Ok, Err}
+use Rattle.std.specs.List.{count_by, flat_map}
+use Rattle.std.proofs.lemmas.Bool.{cases_lt}
 use Rattle.std.proofs.lemmas.Bool.Decides.{nat_tests}
 use Rattle.std.proofs.lemmas.List.{length-map, map-append, append-nil}
 use Rattle.std.proofs.lemmas.List.Sums.{sum_by-cons}
@@ -20,7 +20,7 @@ use Rattle.ds_image.specs.Owned.{CanMark}
 use Rattle.ds_image.specs.Parts.{Parts, part_at, maps_of, bits_in, used_bits}
 use Rattle.ds_image.specs.Pending.{Pair}
 use Rattle.ds_image.specs.Readings.{Reads}
-use Rattle.ds_image.specs.SeenValues.{SeenValue, has_lock, look_of}
+use Rattle.ds_image.specs.SeenValues.{SeenValue, look_of}
 use Rattle.ds_image.specs.Sound.{StandsFor}
 use Rattle.ds_image.specs.declared.asks.Ask.{Ask}
 use Rattle.ds_image.specs.declared.asks.Ask.TheVariants as asks
@@ -31,11 +31,12 @@ use Rattle.ds_plans.specs.Goes.{Goes}
 use Rattle.ds_plans.specs.Items.{map_seen}
 use Rattle.ds_plans.specs.Locks.{to_take, Needs, SeesFree, cluster_tried, map_tried, clear_in}
 use Rattle.ds_plans.specs.PlanAsks.{PlanAsks, HasMap}
-use Rattle.ds_plans.specs.Steps.{after}
 use Rattle.ds_plans.proofs.Bitmaps.{tried-within}
 use Rattle.ds_plans.proofs.GivingWalk.{map-in}
 use Rattle.ds_plans.proofs.Going.{goes-after, goes-if}
 use Rattle.ds_plans.proofs.MapWalk.{map_goes}
+use Rattle.ds_plans.specs.declared.stops.Ending.TheVariants as endings
+use Rattle.ds_plans.specs.declared.stops.Stop.TheVariants as stops
 use Rattle.ds_sizes.specs.Takes.{Take, items_taken, maps_taken}
 use Rattle.ds_sizes.specs.Written.{AreOnce}
 use Rattle.ds_space.specs.Blocks.{AreItems}
@@ -266,7 +267,7 @@ module _ (g : Geom) (slot : ℕ) (call : CallOf Key) (MayHold MayRead : SeenValu
   items_go : (left tried : ℕ) (taken : Taken) → tried + left ≡ clusters_of g kind → HasTaken g slot seen p kind count tried taken
       → Goes Good (items_from g slot seen p kind count taken tried left) Known
   items_go zero tried taken all was =
-      goes-if Good Known (nat_le count (length taken.numbers.items)) (Ok taken) (Err (asks.Done (replies.NoSpace kind)))
+      goes-if Good Known (nat_le count (length taken.numbers.items)) (Ok taken) (Err (stops.Done (endings.NoSpace kind)))
       (enough-or taken tried was)
       (λ few.
       let less : length taken.numbers.items < count = grind (arith, nat_tests, few) in

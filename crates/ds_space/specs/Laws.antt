@@ -5,7 +5,6 @@ use Rattle.std.proofs.lemmas.Bool.Decides.{nat_tests}
 use Rattle.ds_base.specs.Geometry.{IsGeom}
 use Rattle.ds_base.specs.declared.geometry.Geom.{Geom}
 use Rattle.ds_base.specs.declared.names.Key.{Key}
-use Rattle.ds_fd.specs.declared.body.Body.{Body}
 use Rattle.ds_image.specs.Parts.{Parts}
 use Rattle.ds_image.specs.Planning.{AllKeep, AllAreFew}
 use Rattle.ds_image.specs.Readings.{Reads}
@@ -16,6 +15,7 @@ use Rattle.ds_plans.specs.Locks.{IsAllowed}
 use Rattle.ds_plans.specs.PlanAsks.{PlanAsks, IsPlanChange}
 use Rattle.ds_plans.proofs.Going.{goes-after, goes-if}
 use Rattle.ds_plans.proofs.PlanLaws.{plan_keeps, plan_allowed, plan_few}
+use Rattle.ds_plans.specs.declared.stops.Stop.{Stop}
 use Rattle.ds_space.specs.Answers.{SpaceValue, call_of, resized_by, resize_known, changed, answers_of}
 use Rattle.ds_space.specs.Files.{file_to_size}
 use Rattle.ds_space.specs.FileWalk.{HasFile, file_goes}
@@ -49,9 +49,9 @@ module _ (g : Geom) (is_geom : IsGeom g) (slot : ℕ) (key : Key) (size : ℕ) (
       (λ less. growth_goes g is_geom slot key size seen p reads b has (let grows : b.count ≤ size = grind (arith, nat_tests, less) in grows))
       (λ more. shrink_goes g is_geom slot key size seen p reads b has (let shrinks : size ≤ b.count = grind (arith, nat_tests, more) in shrinks)))
 
-  changed-good : (r : Result Resized Ask) → Goes Good r Well → Good (changed g size r)
+  changed-good : (r : Result Resized Stop) → Goes Good r Well → Good (changed g size r)
   changed-good (Ok r) well = well
-  changed-good (Err ask) good = good
+  changed-good (Err stop) good = good
 
   -- all that is asked for is good
   resize_asks : Good (changed g size (resize_known g slot seen p key size))

@@ -1,16 +1,13 @@
 -- The pages that are written hold the blocks of the file from the first that changes on.
-use Rattle.std.proofs.Common.{◌≡◌, ℕ, zero, suc, ◌+◌, ◌-◌, ◌*◌, ◌^◌, ◌<◌, ◌≤◌, inl, inr, List, [], ◌∷◌, ◌++◌, length, take, drop, Some, refl, sym, ap, subst, ◌∙◌, slice_get, length-append, length-take, arith}
+use Rattle.std.proofs.Common.{◌≡◌, ℕ, zero, suc, ◌+◌, ◌-◌, ◌*◌, ◌^◌, ◌<◌, ◌≤◌, inl, inr, List, [], ◌∷◌, length, take, drop, Some, refl, sym, ap, subst, ◌∙◌, slice_get, length-append, length-take, arith}
 use Rattle.std.specs.Prelude.{slice_index}
 use Rattle.std.proofs.lemmas.Bool.{cases_lt}
 use Rattle.std.proofs.lemmas.List.{get_or_append_left, get_or-append_right, get_or-take, get_or-drop, get_or_past, length-replicate}
-use Rattle.std.proofs.lemmas.Option.{slice_get-get_or, slice_get_within, get_or_from_slice_get}
 use Rattle.ds_bytes.specs.Fields.{zeros, AllBelow}
 use Rattle.ds_fd.specs.declared.body.Body.{Body}
-use Rattle.ds_ptr.specs.PtrBlock.{IsPtrBlock}
 use Rattle.ds_ptr.specs.declared.ptr_block.PtrBlock.{PtrBlock}
 use Rattle.ds_sizes.specs.Pages.{ptrs_in, IsPage}
-use Rattle.ds_sizes.specs.Pointers.{WritesPage, WritesPages}
-use Rattle.ds_sizes.specs.Written.{AreOnce}
+use Rattle.ds_sizes.specs.Pointers.{WritesPages}
 use Rattle.ds_space.specs.Below.{below-take, below-padded, zeros-at}
 use Rattle.ds_space.specs.Redos.{padded, pages_of}
 

@@ -1,5 +1,5 @@
 -- A planner of Resize whose file shrinks asks for what it may, and what it writes is right.
-use Rattle.std.proofs.Common.{◌≡◌, ℕ, zero, suc, ◌+◌, ◌-◌, ◌*◌, ◌/◌, ◌%◌, ◌^◌, ◌<◌, ◌≤◌, Bool, true, false, inl, inr, nat_le, if◌then◌else◌, List, [], ◌∷◌, ◌++◌, length, map, take, drop, Some, refl, sym, ap, subst, ◌∙◌, slice_get, is_some, length-append, arith}
+use Rattle.std.proofs.Common.{◌≡◌, ℕ, zero, suc, ◌+◌, ◌*◌, ◌/◌, ◌%◌, ◌^◌, ◌<◌, ◌≤◌, Bool, true, false, inl, inr, nat_le, if◌then◌else◌, List, [], ◌∷◌, ◌++◌, length, map, take, drop, Some, refl, sym, ap, subst, ◌∙◌, slice_get, is_some, length-append, arith}
 use Rattle.std.specs.Prelude.{All, IsSome}
 use Rattle.std.proofs.lemmas.Bool.{cases_lt}
 use Rattle.std.proofs.lemmas.Bool.Decides.{nat_tests}
@@ -53,7 +53,6 @@ use Rattle.ds_sizes.proofs.BuiltPages.{sized-body, sized-pointers, sized-no_poin
 use Rattle.ds_sizes.proofs.FileLists.{block_list-is}
 use Rattle.ds_sizes.proofs.PointerSectors.{pointer-listed}
 use Rattle.ds_sizes.proofs.ReadyFiles.{shrunk-ready}
-use Rattle.ds_sizes.proofs.SpelledBlocks.{size-is}
 use Rattle.ds_sizes.proofs.WrittenPages.{pointers-once}
 use Rattle.ds_space.specs.Below.{below-take, below-padded}
 use Rattle.ds_space.specs.Blocks.{AreItems, blocks_seen, pointers_in, pointers_from}

@@ -5,12 +5,12 @@ use Rattle.ds_base.specs.declared.geometry.Kind.TheVariants.{Pb, Fb}
 use Rattle.ds_fd.specs.declared.body.Body.{Body}
 use Rattle.ds_image.specs.Parts.{Parts}
 use Rattle.ds_image.specs.SeenValues.{SeenValue}
-use Rattle.ds_image.specs.declared.asks.Ask.{Ask}
 use Rattle.ds_jrnl.specs.declared.redo.Redo.{Redo}
 use Rattle.ds_layout.specs.Places.{place_sector}
 use Rattle.ds_layout.specs.declared.places.Place.TheVariants as places
 use Rattle.ds_plans.specs.Giving.{given_up}
 use Rattle.ds_plans.specs.Steps.{after}
+use Rattle.ds_plans.specs.declared.stops.Stop.{Stop}
 use Rattle.ds_space.specs.Blocks.{blocks_of, blocks_seen, pointers_in, pointers_from}
 use Rattle.ds_space.specs.Redos.{body_sized, used_by}
 use Rattle.ds_space.specs.declared.blocks.Blocks.{Blocks}
@@ -32,7 +32,7 @@ no_maps = record { pairs = record { items = [] } }
 
 -- it is known once the pages were read of which blocks are given up, and then the pointer blocks are given up that it needs no
 -- more, and then the blocks
-abbrev pub shrink_known : Geom → SeenValue → Parts → Body → ℕ → Result Resized Ask
+abbrev pub shrink_known : Geom → SeenValue → Parts → Body → ℕ → Result Resized Stop
 shrink_known g seen p b size =
     after (blocks_seen g seen p b (size / 128)) (λ old.
     after (given_up g seen p Pb (pointers_from b (pointer_blocks size)) (place_sector g (places.Body b.object)) no_maps) (λ pointer_maps.

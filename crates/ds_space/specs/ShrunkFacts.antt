@@ -1,6 +1,5 @@
 -- A file that shrinks can be written.
-use Rattle.std.proofs.Common.{◌≡◌, ℕ, ◌+◌, ◌-◌, ◌*◌, ◌/◌, ◌%◌, ◌^◌, ◌<◌, ◌≤◌, inl, inr, false, nat_le, if◌then◌else◌, List, length, take, drop, Some, refl, sym, ap, subst, ◌∙◌, length-drop, length-take-le, arith}
-use Rattle.std.specs.Prelude.{slice_index}
+use Rattle.std.proofs.Common.{◌≡◌, ℕ, ◌+◌, ◌-◌, ◌*◌, ◌/◌, ◌%◌, ◌^◌, ◌<◌, ◌≤◌, inl, inr, false, nat_le, if◌then◌else◌, List, length, take, drop, Some, sym, ap, subst, ◌∙◌, length-drop, length-take-le, arith}
 use Rattle.std.proofs.lemmas.Bool.{cases_lt}
 use Rattle.std.proofs.lemmas.Bool.Decides.{nat_tests}
 use Rattle.std.proofs.lemmas.List.{get_or-take, get_or-drop, length-take}
@@ -14,7 +13,6 @@ use Rattle.ds_fd.specs.declared.body.Body.{Body}
 use Rattle.ds_jrnl.specs.declared.redo.Redo.{Redo}
 use Rattle.ds_sizes.specs.Planned.{HasSize}
 use Rattle.ds_sizes.proofs.BuiltPages.{sized-is_body, sized-pointers, sized-no_pointers}
-use Rattle.ds_sizes.proofs.Paged.{some-pointers, few-pointers}
 use Rattle.ds_sizes.proofs.ReadyFiles.{pointers-rise}
 use Rattle.ds_space.specs.Blocks.{AreItems, pointers_in, pointers_from}
 use Rattle.ds_space.specs.Files.{CanResize}

@@ -1,8 +1,7 @@
 -- What is written to give a file another size is metadata in its order.
-use Rattle.std.proofs.Common.{◌≡◌, ℕ, zero, suc, ◌+◌, ◌-◌, ◌<◌, ◌≤◌, List, [], ◌∷◌, length, map, drop, Some, refl, sym, ap, ◌∙◌, slice_get, arith}
+use Rattle.std.proofs.Common.{◌≡◌, ℕ, zero, suc, ◌<◌, List, [], ◌∷◌, length, map, drop, Some, refl, ap, slice_get, arith}
 use Rattle.std.specs.Prelude.{All, slice_index}
 use Rattle.std.proofs.lemmas.List.{length-map}
-use Rattle.std.proofs.lemmas.List.Elements.{All-nil}
 use Rattle.std.proofs.lemmas.Option.{slice_get_within, get_or_from_slice_get}
 use Rattle.ds_base.specs.Geometry.{clusters_of, items_of}
 use Rattle.ds_base.specs.declared.geometry.Geom.{Geom}
@@ -12,7 +11,6 @@ use Rattle.ds_bitmap.specs.Bits.{Bitmap}
 use Rattle.ds_image.specs.Asking.{AreTargets, targets_of}
 use Rattle.ds_image.specs.Metadata.{IsMetadata}
 use Rattle.ds_image.specs.Pending.{Pair}
-use Rattle.ds_layout.specs.Places.{place_sector}
 use Rattle.ds_layout.specs.declared.places.Place.TheVariants as places
 use Rattle.ds_plans.specs.Redos.{body_pair}
 use Rattle.ds_ptr.specs.declared.ptr_block.PtrBlock.{PtrBlock}

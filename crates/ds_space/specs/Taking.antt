@@ -8,16 +8,16 @@ use Rattle.ds_image.specs.Owned.{with_marks}
 use Rattle.ds_image.specs.Parts.{Parts}
 use Rattle.ds_image.specs.Pending.{Pair}
 use Rattle.ds_image.specs.SeenValues.{SeenValue}
-use Rattle.ds_image.specs.declared.asks.Ask.{Ask}
-use Rattle.ds_image.specs.declared.asks.Ask.TheVariants.{Done}
 use Rattle.ds_layout.specs.Places.{place_sector}
 use Rattle.ds_layout.specs.declared.places.Place.TheVariants as places
 use Rattle.ds_plans.specs.Items.{map_seen}
 use Rattle.ds_plans.specs.Locks.{cluster_tried}
 use Rattle.ds_plans.specs.Steps.{after}
+use Rattle.ds_plans.specs.declared.stops.Ending.TheVariants as endings
+use Rattle.ds_plans.specs.declared.stops.Stop.{Stop}
+use Rattle.ds_plans.specs.declared.stops.Stop.TheVariants.{Done}
 use Rattle.ds_space.specs.Blocks.{AreItems}
 use Rattle.ds_space.specs.declared.taking.Taken.{Taken}
-use Rattle.ds_tree.specs.declared.calls.TreeReply.TheVariants as replies
 
 -- the items that are not used, from this number on
 abbrev pub clear_from : ℕ → List Bool → List ℕ
@@ -48,9 +48,9 @@ taken_more g kind cluster map_before (item ∷ items) taken =
     (taken.maps.items ++ map_pair g kind cluster (map_marked map_before (item ∷ items)) ∷ [])
 
 -- so many items, with those of the clusters that are tried after so many others, of which so many are left; otherwise there is no space
-abbrev pub items_from : Geom → ℕ → SeenValue → Parts → Kind → ℕ → Taken → ℕ → ℕ → Result Taken Ask
+abbrev pub items_from : Geom → ℕ → SeenValue → Parts → Kind → ℕ → Taken → ℕ → ℕ → Result Taken Stop
 items_from g slot seen p kind count taken tried zero =
-    if nat_le count (length taken.numbers.items) then Ok taken else Err (Done (replies.NoSpace kind))
+    if nat_le count (length taken.numbers.items) then Ok taken else Err (Done (endings.NoSpace kind))
 items_from g slot seen p kind count taken tried (suc left) =
     if nat_le count (length taken.numbers.items) then Ok taken
     else after (map_seen g seen p kind (cluster_tried g slot kind tried))
@@ -58,7 +58,7 @@ items_from g slot seen p kind count taken tried (suc left) =
     (taken_more g kind (cluster_tried g slot kind tried) map (lowest_clear (count - length taken.numbers.items) map.used) taken) (suc tried) left)
 
 -- so many items of a kind, the lowest of each cluster, by the order in which a host with this slot tries the clusters
-abbrev pub items_wanted : Geom → ℕ → SeenValue → Parts → Kind → ℕ → Result Taken Ask
+abbrev pub items_wanted : Geom → ℕ → SeenValue → Parts → Kind → ℕ → Result Taken Stop
 items_wanted g slot seen p kind count = items_from g slot seen p kind count (taken_of [] []) 0 (clusters_of g kind)
 
 -- so many items of the volume, with the bitmaps of at most as many clusters as there are

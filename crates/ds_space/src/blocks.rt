@@ -5,16 +5,13 @@ ghost use Rattle.ds_base.specs.declared.geometry.Kind.TheVariants.{Fd, Pb};
 ghost use Rattle.ds_image.specs.Parts.{Parts};
 ghost use Rattle.ds_image.specs.Readings.{Reads};
 ghost use Rattle.ds_image.specs.SeenValues.{look_of};
-ghost use Rattle.ds_ptr.specs.PtrBlock.{IsPtrBlock};
-ghost use Rattle.ds_space.specs.Blocks.{AreItems, addresses_seen, blocks_seen, pointer_seen, pointers_from, pointers_in};
+ghost use Rattle.ds_space.specs.Blocks.{AreItems, addresses_seen, blocks_seen, pointers_from, pointers_in};
 
-use crate::files::pointer_blocks;
 use arrayvec::ArrayVec;
 use ds_base::Geom;
 use ds_fd::Body;
-use ds_image::{Ask, Seen};
-use ds_layout::{Place, sector_of};
-use ds_ptr::PtrBlock;
+use ds_image::Seen;
+use ds_plans::{Stop, pointer_block, pointer_blocks};
 
 /// Blocks of a file, in its order.
 #[derive(Drop)]
@@ -23,7 +20,7 @@ pub struct Blocks {
 }
 
 /// The blocks of a file from a page on; otherwise what a planner asks for before it knows them.
-pub fn blocks_seen(geom: &Geom, seen: &Seen, body: &Body, first: usize) -> Result<Blocks, Ask>
+pub fn blocks_seen(geom: &Geom, seen: &Seen, body: &Body, first: usize) -> Result<Blocks, Stop>
     requires geom { IsGeom geom.now }
     requires inside { body.now.object < items_of geom.now Fd }
     requires few { length (pointers_from body.now first) ≤ 9 }
@@ -45,7 +42,7 @@ pub fn blocks_seen(geom: &Geom, seen: &Seen, body: &Body, first: usize) -> Resul
 }
 
 /// The addresses in these pointer blocks of a file.
-fn addresses_seen(geom: &Geom, seen: &Seen, body: &Body, pointers: &[u32]) -> Result<Blocks, Ask>
+fn addresses_seen(geom: &Geom, seen: &Seen, body: &Body, pointers: &[u32]) -> Result<Blocks, Stop>
     requires geom { IsGeom geom.now }
     requires inside { body.now.object < items_of geom.now Fd }
     requires few { length pointers.now ≤ 9 }
@@ -56,37 +53,10 @@ fn addresses_seen(geom: &Geom, seen: &Seen, body: &Body, pointers: &[u32]) -> Re
 {
     let mut list = ArrayVec::new();
     for n in pointers {
-        let block = pointer_seen(geom, seen, body, *n)?;
+        let block = pointer_block(geom, seen, body, *n)?;
         let _ = list.try_extend_from_slice(&block.addresses);
     }
     Ok(Blocks { list })
-}
-
-/// A pointer block that a body lists.
-fn pointer_seen(geom: &Geom, seen: &Seen, body: &Body, n: u32) -> Result<PtrBlock, Ask>
-    requires geom { IsGeom geom.now }
-    requires inside { body.now.object < items_of geom.now Fd }
-    ensures answer { (p : Parts) → Reads geom.now (look_of seen.now) p
-        → result ≡ pointer_seen geom.now seen.now p body.now n }
-    ensures inside { IfOk result (λ _. n < items_of geom.now Pb) }
-    ensures is_block { IfOk result IsPtrBlock }
-{
-    if n >= all_pointer_blocks(geom) {
-        return Err(Ask::Odd(sector_of(geom, &Place::Body(body.object))));
-    }
-    let at = sector_of(geom, &Place::PtrBlock(n));
-    let Some(sector) = seen.sector(at) else {
-        return Err(Ask::Read(at));
-    };
-    Ok(PtrBlock::decode(sector))
-}
-
-/// The pointer blocks of the volume.
-fn all_pointer_blocks(geom: &Geom) -> u32
-    requires { IsGeom geom.now }
-    ensures { result ≡ items_of geom.now Pb }
-{
-    u32::from(geom.clusters[2]) * u32::from(geom.items[2])
 }
 
 /// The pointer blocks that a file's body lists.

@@ -6,17 +6,15 @@ ghost use Rattle.ds_image.specs.Parts.{Parts};
 ghost use Rattle.ds_image.specs.Readings.{Reads};
 ghost use Rattle.ds_image.specs.SeenValues.{look_of};
 ghost use Rattle.ds_space.specs.Files.{CanResize, body_of_file, body_to_size, file_to_size};
-ghost use Rattle.ds_tree.specs.Counts.{pointer_blocks};
 
 use ds_base::{Geom, Key, NodeKind};
 use ds_fd::Body;
-use ds_image::{Ask, Seen};
-use ds_plans::body_of_key;
-use ds_tree::TreeReply;
+use ds_image::Seen;
+use ds_plans::{Ending, Stop, body_of_key};
 
 /// The body of a key's file, which may get this size and has another; otherwise what a planner asks for, or answers, before it
 /// knows it.
-pub fn file_to_size(geom: &Geom, seen: &Seen, key: &Key, size: u32) -> Result<Body, Ask>
+pub fn file_to_size(geom: &Geom, seen: &Seen, key: &Key, size: u32) -> Result<Body, Stop>
     requires { IsGeom geom.now }
     ensures answer { (p : Parts) → Reads geom.now (look_of seen.now) p
         → result ≡ file_to_size geom.now seen.now p key.now size }
@@ -26,36 +24,26 @@ pub fn file_to_size(geom: &Geom, seen: &Seen, key: &Key, size: u32) -> Result<Bo
     resizable(body, size)
 }
 
-fn file_of(body: Body) -> Result<Body, Ask>
+fn file_of(body: Body) -> Result<Body, Stop>
     ensures { result ≡ body_of_file body }
 {
     match body.kind {
         Some(NodeKind::File) => Ok(body),
-        _ => Err(Ask::Done(TreeReply::NotFile)),
+        _ => Err(Stop::Done(Ending::NotFile)),
     }
 }
 
-fn resizable(body: Body, size: u32) -> Result<Body, Ask>
+fn resizable(body: Body, size: u32) -> Result<Body, Stop>
     ensures { result ≡ body_to_size size body }
 {
     if size > 12_288 {
-        return Err(Ask::Done(TreeReply::TooBig));
+        return Err(Stop::Done(Ending::TooBig));
     }
     if size.abs_diff(body.count) > 1024 {
-        return Err(Ask::Done(TreeReply::TooMuch));
+        return Err(Stop::Done(Ending::TooMuch));
     }
     if size == body.count {
-        return Err(Ask::Done(TreeReply::Sized { blocks: size }));
+        return Err(Stop::Done(Ending::Sized { blocks: size }));
     }
     Ok(body)
-}
-
-/// The pointer blocks of a file of so many blocks.
-pub fn pointer_blocks(count: u32) -> u32
-    ensures { result ≡ pointer_blocks count }
-{
-    if count <= 96 {
-        return 0;
-    }
-    count.div_ceil(128)
 }

@@ -11,15 +11,15 @@ ghost use Rattle.ds_space.specs.Growing.{growth_known, grown};
 ghost use Rattle.ds_space.specs.Writable.{IsWritable};
 
 use crate::blocks::{Blocks, blocks_seen, pointers_in};
-use crate::files::pointer_blocks;
 use crate::pages::put_all;
 use crate::resized::{Resized, body_sized};
 use crate::taking::{Taken, items_wanted};
 use arrayvec::ArrayVec;
 use ds_base::{Geom, Kind, SlotNo};
 use ds_fd::Body;
-use ds_image::{Ask, Seen};
+use ds_image::Seen;
 use ds_jrnl::Redo;
+use ds_plans::{Stop, pointer_blocks};
 
 /// A file that grows, with its new size; otherwise what a planner asks for, or answers, before it knows that.
 pub fn growth_known(
@@ -28,7 +28,7 @@ pub fn growth_known(
     slot: SlotNo,
     body: &Body,
     size: u32,
-) -> Result<Resized, Ask>
+) -> Result<Resized, Stop>
     requires geom { IsGeom geom.now }
     requires can { CanResize geom.now size body.now }
     requires grows { body.now.count ≤ size }

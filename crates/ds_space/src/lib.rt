@@ -9,5 +9,7 @@ mod resized;
 mod shrinking;
 mod space;
 mod taking;
+#[cfg(test)]
+mod tests;
 
 pub use space::Space;

@@ -12,18 +12,17 @@ ghost use Rattle.ds_space.specs.Writable.{IsWritable};
 ghost use Rattle.ds_tree.specs.Counts.{pointer_blocks};
 
 use crate::blocks::{Blocks, blocks_seen, pointers_from, pointers_in};
-use crate::files::pointer_blocks;
 use crate::resized::{Resized, body_sized};
 use arrayvec::ArrayVec;
 use ds_base::{Geom, Kind};
 use ds_fd::Body;
-use ds_image::{Ask, Seen};
+use ds_image::Seen;
 use ds_jrnl::Redo;
 use ds_layout::{Place, sector_of};
-use ds_plans::give_up;
+use ds_plans::{Stop, give_up, pointer_blocks};
 
 /// A file that shrinks, with its new size; otherwise what a planner asks for before it knows that.
-pub fn shrink_known(geom: &Geom, seen: &Seen, body: &Body, size: u32) -> Result<Resized, Ask>
+pub fn shrink_known(geom: &Geom, seen: &Seen, body: &Body, size: u32) -> Result<Resized, Stop>
     requires geom { IsGeom geom.now }
     requires can { CanResize geom.now size body.now }
     requires shrinks { size ≤ body.now.count }

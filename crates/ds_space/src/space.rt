@@ -13,6 +13,7 @@ use crate::resized::{Resized, redo_of};
 use crate::shrinking::shrink_known;
 use ds_base::{Geom, Key, SlotNo};
 use ds_image::{Ask, Plan, Seen};
+use ds_plans::Stop;
 use ds_tree::{Call, CallOf, TreeReply};
 use std::marker::Model;
 
@@ -65,12 +66,12 @@ impl Space {
                 redo_of(&self.geom, resized),
                 TreeReply::Sized { blocks: self.size },
             ),
-            Err(ask) => ask,
+            Err(stop) => stop.ask(),
         }
     }
 
     /// The file with its new size, or what is asked for before that is known.
-    fn resized(&self, seen: &Seen) -> Result<Resized, Ask>
+    fn resized(&self, seen: &Seen) -> Result<Resized, Stop>
         ensures answer { (p : Parts) → Reads self.now.geom (look_of seen.now) p
             → result ≡ resize_known self.now.geom self.now.slot seen.now p self.now.file self.now.size }
         ensures writable { IfOk result (IsWritable self.now.geom) }

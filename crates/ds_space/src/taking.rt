@@ -11,10 +11,9 @@ ghost use Rattle.ds_space.specs.Taking.{IsTaken, items_wanted, lowest_clear, map
 use arrayvec::ArrayVec;
 use ds_base::{Geom, Kind, Sector, SectorNo, SlotNo};
 use ds_bitmap::Bits;
-use ds_image::{Ask, Seen};
+use ds_image::Seen;
 use ds_layout::{Place, sector_of};
-use ds_plans::{cluster_tried, clusters, map_seen};
-use ds_tree::TreeReply;
+use ds_plans::{Ending, Stop, cluster_tried, clusters, map_seen};
 
 /// Items that are taken: their numbers in their kind, and the sectors of the bitmaps in which they are marked.
 #[derive(Drop)]
@@ -31,7 +30,7 @@ pub fn items_wanted(
     kind: Kind,
     slot: SlotNo,
     count: usize,
-) -> Result<Taken, Ask>
+) -> Result<Taken, Stop>
     requires geom { IsGeom geom.now }
     requires few { count ≤ 1024 }
     ensures answer { (p : Parts) → Reads geom.now (look_of seen.now) p
@@ -54,7 +53,7 @@ pub fn items_wanted(
     if taken.numbers.len() >= count {
         return Ok(taken);
     }
-    Err(Ask::Done(TreeReply::NoSpace { kind }))
+    Err(Stop::Done(Ending::NoSpace { kind }))
 }
 
 /// The lowest items that are free, at most so many.

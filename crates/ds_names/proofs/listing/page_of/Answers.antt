@@ -25,12 +25,12 @@ loop-number-preserved c =
       most = omega (arith, c.add_rooms-total.ensures.most, c.loop-number.invariant.most);
       known = λ p reads.
           c.loop-number.invariant.known p reads
-          ∙ known_more g seen p c.args.dir.now subs i c.loop-number-test.true c.in_ok-block.block (sym (c.sub_block.ensures p reads) ∙ c.in_ok-block.was);
+          ∙ known_more g seen p c.args.dir.now subs i c.loop-number-test.true c.in_ok-block.block (sym (c.sub_block.ensures.answer p reads) ∙ c.in_ok-block.was);
       total = λ p reads.
-          let more = entries_more g seen p c.args.dir.now subs i c.loop-number-test.true c.in_ok-block.block (sym (c.sub_block.ensures p reads) ∙ c.in_ok-block.was) in
+          let more = entries_more g seen p c.args.dir.now subs i c.loop-number-test.true c.in_ok-block.block (sym (c.sub_block.ensures.answer p reads) ∙ c.in_ok-block.was) in
           omega (arith, c.loop-number.invariant.total p reads, c.add_rooms-total.ensures.count, ap length more ∙ length-append (used_rooms p (take i subs)) entries);
       names = λ p reads.
-          let more = entries_more g seen p c.args.dir.now subs i c.loop-number-test.true c.in_ok-block.block (sym (c.sub_block.ensures p reads) ∙ c.in_ok-block.was) in
+          let more = entries_more g seen p c.args.dir.now subs i c.loop-number-test.true c.in_ok-block.block (sym (c.sub_block.ensures.answer p reads) ∙ c.in_ok-block.was) in
           c.add_rooms-total.ensures.names (used_rooms p (take i subs)) (c.loop-number.invariant.names p reads) ∙ ap (page_names c.args.after.now) (sym more);
     }
 

@@ -22,7 +22,7 @@ returns c =
     let old = c.args.names.now.items in
     let s = c.as_slice.result.now in
     let within = c.in-Some.ensures.within in
-    rw (c.insert.ensures.items, c.copy_of.ensures)
+    rw (c.insert.ensures.items, c.copy_of.ensures.same)
     (elim c.if-is_full.branch [
       | then-is_full+else-place-eq32 w ↦
           let full : length old ≡ 32 = grind (arith, nat_tests, c.is_full.ensures.value, w.if-is_full.true) in

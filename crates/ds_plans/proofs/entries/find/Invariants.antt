@@ -7,7 +7,7 @@ use Rattle.ds_image.specs.SeenValues.{look_of}
 use Rattle.ds_plans.specs.Entries.{found_in, found_from}
 use Rattle.ds_plans.proofs.entries.find.Given as goal
 
-abbrev pub invariant-loop-sub : goal.invariant-loop-sub
-invariant-loop-sub l =
+abbrev pub invariant-loop-number : goal.invariant-loop-number
+invariant-loop-number l =
     (p : Parts) → Reads l.geom (look_of l.seen) p
-    → found_in l.geom l.seen p l.dir l.name ≡ found_from l.geom l.seen p l.dir l.name l.sub (drop l.sub (subs_of (Some l.dir)))
+    → found_in l.geom l.seen p l.dir l.name ≡ found_from l.geom l.seen p l.dir l.name (drop l.number-index (subs_of (Some l.dir)))

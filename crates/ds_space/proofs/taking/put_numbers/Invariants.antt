@@ -1,5 +1,5 @@
 -- The numbers so far are put behind the others.
-use Rattle.std.proofs.Common.{◌≡◌, ◌+◌, ◌++◌, length, map, take}
+use Rattle.std.proofs.Common.{◌≡◌, ◌+◌, ◌++◌, map, take}
 use Rattle.ds_space.proofs.taking.put_numbers.Given as goal
 
 abbrev pub invariant-loop-item : goal.invariant-loop-item
