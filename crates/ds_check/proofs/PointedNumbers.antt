@@ -1,5 +1,5 @@
 -- The addresses of a file by its pointer blocks.
-use Rattle.std.proofs.Common.{◌≡◌, ℕ, ◌+◌, ◌/◌, ◌%◌, ◌<◌, ◌&&◌, ◌||◌, nat_le, nat_lt, if◌then◌else◌, List, [], take, drop, slice_get, Option, None, Some, refl, ap, ◌∙◌, subst, arith}
+use Rattle.std.proofs.Common.{◌≡◌, ℕ, ◌+◌, ◌/◌, ◌%◌, ◌<◌, ◌&&◌, ◌||◌, nat_le, nat_lt, if◌then◌else◌, List, [], take, drop, slice_get, Option, None, Some, refl, ap, ◌∙◌, arith}
 use Rattle.std.proofs.lemmas.List.{drop_all}
 use Rattle.ds_base.specs.declared.geometry.Geom.{Geom}
 use Rattle.ds_base.specs.declared.geometry.Kind.TheVariants.{Fb, Pb}
@@ -11,7 +11,7 @@ use Rattle.ds_image.specs.Objects.{ptrs_by, addresses_in}
 use Rattle.ds_image.specs.Parts.{Parts, part_at}
 use Rattle.ds_ptr.specs.declared.ptr_block.PtrBlock.{PtrBlock}
 use Rattle.ds_check.specs.Addresses.{pointer_block, is_bad_number}
-use Rattle.ds_check.specs.Objects.{is_outside, is_bad_block, pointed_at, past_last, is_first_past, is_bad_address}
+use Rattle.ds_check.specs.Objects.{is_outside, is_bad_block, past_last, is_first_past, is_bad_address}
 
 pointed-in : (p : Parts) (o : Option ℕ) (k : ℕ)
     → slice_get (addresses_in (elim o [ None ↦ None | Some n ↦ part_at p.ptrs n ])) k

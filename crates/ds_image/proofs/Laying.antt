@@ -1,9 +1,9 @@
 -- Pairs laid over sectors, one list after another.
-use Rattle.std.proofs.Common.{◌≡◌, ℕ, ◌+◌, ◌<◌, ◌==◌, ⊎_elim, inl, inr, true, if◌then◌else◌, List, [], ◌∷◌, ◌++◌, length, take, drop, get_or, slice_get, slice_set, Option, Some, None, MatchOption, refl, sym, ap, subst, ◌∙◌, cond, eq-eqb, ne_eqb, length-set, arith}
+use Rattle.std.proofs.Common.{◌≡◌, ℕ, ◌+◌, ◌<◌, ◌==◌, ⊎_elim, inl, inr, true, if◌then◌else◌, List, [], ◌∷◌, ◌++◌, length, take, get_or, slice_get, slice_set, Option, Some, None, MatchOption, refl, sym, ap, subst, ◌∙◌, cond, eq-eqb, ne_eqb, length-set, arith}
 use Rattle.std.specs.BTreeMap.{is_at}
 use Rattle.std.specs.Ordering.{nat_cmp}
 use Rattle.std.proofs.lemmas.Bool.{cases_lt, cases_eq}
-use Rattle.std.proofs.lemmas.List.{length-map, length-take-le, append-nil, get_or_append_left, get_or_at, length_push, map_push, take_more, take_at}
+use Rattle.std.proofs.lemmas.List.{length-map, length-take-le, append-nil, get_or_append_left, get_or_at, length_push, map_push, take_more}
 use Rattle.std.proofs.lemmas.List.Concat.{flat_map-append}
 use Rattle.std.proofs.lemmas.Option.{slice_get-get_or, slice_get_within, get_or_from_slice_get, same_Some}
 use Rattle.std.specs.List.{flat_map}

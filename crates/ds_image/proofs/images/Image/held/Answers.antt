@@ -1,8 +1,7 @@
 -- The sector is the pending one, or else that of the store.
-use Rattle.std.proofs.Common.{◌≡◌, ◌≤◌, Some, None, length, rules, arith}
+use Rattle.std.proofs.Common.{◌≡◌, Some, None, rules, arith}
 use Rattle.std.specs.BTreeMap.{get}
 use Rattle.std.specs.Ordering.{nat_cmp}
-use Rattle.ds_layout.specs.Places.{blocks_at}
 use Rattle.ds_image.proofs.Replacing.{held-pending, held-stored}
 use Rattle.ds_image.proofs.images.Image.held.Goals as goal
 
