@@ -5,7 +5,5 @@
 mod making;
 mod objects;
 mod redos;
-#[cfg(test)]
-mod tests;
 
 pub use making::Make;

@@ -4,10 +4,6 @@
 mod listing;
 mod names;
 mod reading;
-#[cfg(test)]
-mod tests;
-#[cfg(test)]
-mod tree_tests;
 
 pub use names::Names;
 pub use reading::{DirReads, ReadCall};

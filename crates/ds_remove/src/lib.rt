@@ -6,7 +6,5 @@ mod blocks;
 mod entries;
 mod objects;
 mod removing;
-#[cfg(test)]
-mod tests;
 
 pub use removing::Remove;

@@ -5,7 +5,5 @@
 mod entries;
 mod redos;
 mod renaming;
-#[cfg(test)]
-mod tests;
 
 pub use renaming::Rename;

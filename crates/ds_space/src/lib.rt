@@ -9,7 +9,5 @@ mod resized;
 mod shrinking;
 mod space;
 mod taking;
-#[cfg(test)]
-mod tests;
 
 pub use space::Space;
