@@ -41,7 +41,7 @@ use Rattle.ds_layout.specs.declared.places.Place.TheVariants as places
 use Rattle.ds_plans.specs.Items.{number_of, map_taken}
 use Rattle.ds_plans.specs.PlanAsks.{IsPlanChange, HasItem, HasMap, HasWhole}
 use Rattle.ds_make.specs.NewBodies.{begun-is_body}
-use Rattle.ds_make.specs.ObjectWalk.{HasNew, some-there}
+use Rattle.ds_make.specs.ObjectWalk.{HasNew}
 use Rattle.ds_make.specs.Redos.{new_object, pairs_filled, pairs_grown}
 use Rattle.ds_plans.specs.declared.items.FreeItem.{FreeItem}
 use Rattle.ds_make.specs.declared.objects.NewObject.{NewObject}
@@ -53,6 +53,7 @@ use Rattle.ds_plans.proofs.Known.{HasRoom}
 use Rattle.ds_plans.proofs.Limits.{map_alike}
 use Rattle.ds_plans.proofs.NewBodies.{grown-is_body, item-within}
 use Rattle.ds_plans.proofs.Wholes.{subs-same, rooms-same, entries-absent}
+use Rattle.ds_plans.proofs.Alike.{some-there}
 use Rattle.ds_tree.specs.Nodes.{FileTree}
 use Rattle.ds_tree.specs.declared.calls.CallOf.{CallOf}
 use Rattle.ds_tree.specs.declared.calls.TreeReply.TheVariants.{Made}

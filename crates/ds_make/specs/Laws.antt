@@ -38,7 +38,7 @@ use Rattle.ds_plans.proofs.ItemWalk.{wanted_goes}
 use Rattle.ds_plans.specs.Items.{number_of, free_item, wanted_item}
 use Rattle.ds_make.specs.Limits.{MayHold, MayRead, the_dir, a_cluster, of_dir, of_cluster, holds-stay, reads-stay, lock_list, sector_list, in-lock_list, in-sector_list, few_locks, few_sectors}
 use Rattle.ds_plans.specs.PlanAsks.{PlanAsks, IsPlanChange, HasItem, HasWhole}
-use Rattle.ds_make.specs.ObjectWalk.{HasNew, some-there, unused_goes}
+use Rattle.ds_make.specs.ObjectWalk.{HasNew, unused_goes}
 use Rattle.ds_plans.specs.Objects.{CanGrow}
 use Rattle.ds_make.specs.Redos.{new_object}
 use Rattle.ds_plans.specs.Rooms.{room_in, room_for}
@@ -59,6 +59,7 @@ use Rattle.ds_plans.proofs.Limits.{map_alike}
 use Rattle.ds_plans.proofs.PlanLaws.{plan_allowed, plan_few, plan_keeps}
 use Rattle.ds_plans.proofs.Wholes.{dir-node, entries-count, entries-absent, counts-known, takes, room_goes, dir_known-goes}
 use Rattle.ds_plans.specs.declared.stops.Stop.{Stop}
+use Rattle.ds_plans.proofs.Alike.{some-there}
 use Rattle.ds_tree.specs.CallNames.{HasNames}
 use Rattle.ds_tree.specs.Counts.{free_of}
 use Rattle.ds_tree.specs.Nodes.{FileTree}

@@ -1,5 +1,5 @@
 -- A planner that has found a free descriptor asks for what it may before it knows the new object.
-use Rattle.std.proofs.Common.{◌≡◌, ℕ, ◌/◌, ◌%◌, ◌^◌, ◌<◌, true, false, nat_le, if◌then◌else◌, List, map, Option, None, Some, inl, refl, sym, ap, ◌∙◌, arith, slice_get, is_some}
+use Rattle.std.proofs.Common.{◌≡◌, ℕ, ◌/◌, ◌%◌, ◌^◌, ◌<◌, true, false, nat_le, if◌then◌else◌, List, map, None, Some, inl, sym, ap, ◌∙◌, arith, slice_get, is_some}
 use Rattle.std.specs.Prelude.{Ok, Err, IsSome}
 use Rattle.std.proofs.lemmas.Bool.{false≢true}
 use Rattle.std.proofs.lemmas.Bool.Decides.{nat_tests}
@@ -40,16 +40,9 @@ use Rattle.ds_plans.proofs.Going.{goes-after, goes-if}
 use Rattle.ds_plans.proofs.Limits.{map_alike}
 use Rattle.ds_plans.proofs.NewBodies.{item-within}
 use Rattle.ds_plans.specs.declared.stops.Stop.TheVariants as stops
+use Rattle.ds_plans.proofs.Alike.{some-there, none-there}
 use Rattle.ds_tree.specs.Nodes.{FileTree}
 use Rattle.ds_tree.specs.declared.calls.CallOf.{CallOf}
-
-pub some-there : {X : Type 0} (r : Option X) → IsSome r → (s : X) × (r ≡ Some s)
-some-there None some = absurd (false≢true some)
-some-there (Some s) some = (s, refl)
-
-none-there : {X : Type 0} (r : Option X) → is_some r ≡ false → r ≡ None
-none-there None none = refl
-none-there (Some x) none = absurd (false≢true (sym none))
 
 -- the call holds the descriptor, and has read its body, which can begin a new life
 pub record HasNew (g : Geom) (seen : SeenValue) (p : Parts) (o : ℕ) (b : Body) : Type 0 where

@@ -2,7 +2,6 @@
 use Rattle.std.proofs.Common.{◌≡◌, ℕ, zero, suc, ◌+◌, ◌*◌, ◌/◌, ◌%◌, ◌<◌, ◌≤◌, ◌==◌, nat_le, true, false, List, ◌∷◌, Option, Some, None, inr, refl, sym, ap, subst, ◌∙◌, arith, slice_get, is_some}
 use Rattle.std.specs.Prelude.{Ok, Err, IsSome}
 use Rattle.std.proofs.Math.Nat.{mod-lt}
-use Rattle.std.proofs.lemmas.Bool.{false≢true}
 use Rattle.std.proofs.lemmas.Bool.Decides.{nat_tests}
 use Rattle.std.proofs.lemmas.Nat.{div-add-mod'}
 use Rattle.ds_base.specs.Geometry.{IsGeom, clusters_of, per_cluster, items_of}
@@ -36,6 +35,7 @@ use Rattle.ds_plans.proofs.Limits.{if-ok, map_alike, part-known}
 use Rattle.ds_plans.proofs.MapWalk.{map_goes}
 use Rattle.ds_plans.proofs.MapsLeft.{any-some, any-none, without-some, AreLeft, maps-are}
 use Rattle.ds_plans.specs.declared.stops.Stop.TheVariants as stops
+use Rattle.ds_plans.proofs.Alike.{some-there}
 use Rattle.ds_tree.specs.Nodes.{FileTree}
 use Rattle.ds_tree.specs.declared.calls.CallOf.{CallOf}
 
@@ -43,10 +43,6 @@ use Rattle.ds_tree.specs.declared.calls.CallOf.{CallOf}
 pub record AreMarked (q : Parts) (kind : Kind) (items : List ℕ) : Type 0 where
   pub marked : (i n : ℕ) → slice_get items i ≡ Some n → bit (bits_in (maps_of q kind)) n ≡ true
   pub once : (i j n : ℕ) → slice_get items i ≡ Some n → slice_get items j ≡ Some n → i ≡ j
-
-some-there : {X : Type 0} (r : Option X) → IsSome r → (s : X) × (r ≡ Some s)
-some-there None some = absurd (false≢true some)
-some-there (Some s) some = (s, refl)
 
 -- a bitmap that is known was locked and read
 pub map-known : (g : Geom) (seen : SeenValue) (p : Parts) → Reads g (look_of seen) p → (kind : Kind) (c : ℕ) (map : Bitmap) → c < clusters_of g kind

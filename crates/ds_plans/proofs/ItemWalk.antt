@@ -1,9 +1,9 @@
 -- A planner that wants a free item asks for what it may, and answers that there is no space where there is none.
 use Rattle.std.proofs.Common.{◌≡◌, ℕ, zero, suc, ◌+◌, ◌-◌, ◌*◌, ◌/◌, ◌%◌, ◌<◌, Bool, true, false, not, List, [], ◌∷◌, Option, None, Some, inl, inr, refl, sym, ap, subst, ◌∙◌, arith, slice_get, is_some}
-use Rattle.std.specs.Prelude.{Result, Ok, Err, IsSome, option_map}
+use Rattle.std.specs.Prelude.{Result, Ok, Err, option_map}
 use Rattle.std.specs.List.{count_by, sum_by, range_with_len}
 use Rattle.std.proofs.Math.Nat.{div-add-mod, mod-lt}
-use Rattle.std.proofs.lemmas.Bool.{false≢true, cases_lt}
+use Rattle.std.proofs.lemmas.Bool.{cases_lt}
 use Rattle.std.proofs.lemmas.List.FromFn.{length-range_with_len, get_or-range_with_len}
 use Rattle.std.proofs.lemmas.List.Sums.{sum_by-cons}
 use Rattle.std.proofs.lemmas.Nat.{mod-mul-add}
@@ -35,6 +35,7 @@ use Rattle.ds_plans.specs.Goes.{Goes}
 use Rattle.ds_plans.specs.Locks.{to_take, Needs, cluster_tried, map_tried, clear_in}
 use Rattle.ds_plans.proofs.Going.{goes-after}
 use Rattle.ds_plans.specs.declared.stops.Stop.{Stop}
+use Rattle.ds_plans.proofs.Alike.{some-there}
 use Rattle.ds_tree.specs.Counts.{free_of}
 use Rattle.ds_tree.specs.Nodes.{FileTree}
 use Rattle.ds_tree.specs.Steps.{Does}
@@ -172,10 +173,6 @@ module _ (g : Geom) (slot : ℕ) (call : CallOf Key) (MayHold MayRead : SeenValu
       let known = some-there (look_of seen (map_at c)) is.has.read in
       let same = map_alike g (slice_get image) (look_of seen) q p kind c inside (agrees (map_at c) known.0 known.1 ∙ sym known.1) stands.reads reads in
       ap (λ m. clear_count (used_bits m)) (sym (get_or_from_slice_get (maps_of q kind) c m None at) ∙ same) ∙ full-clear c is)
-    where
-      some-there : (r : Option Sector) → IsSome r → (s : Sector) × (r ≡ Some s)
-      some-there None some = absurd (false≢true some)
-      some-there (Some s) some = (s, refl)
 
   -- a free item is known, or what is asked for is good
   pub wanted_goes : Goes Good (wanted_item g slot seen p kind) (λ free. HasItem g seen p kind free × (free_item g slot seen p kind ≡ Ok (Some free)))

@@ -1,9 +1,8 @@
 -- A directory that may get an entry: what is asked for before it is known, and what the tree says of it.
 use Rattle.std.proofs.Common.{◌≡◌, ℕ, nat_eq, zero, suc, ◌+◌, ◌*◌, ◌<◌, true, false, nat_le, List, [], ◌∷◌, length, Option, None, Some, inl, refl, sym, ap, subst, ◌∙◌, arith, slice_get, is_some, length-append}
-use Rattle.std.specs.Prelude.{Result, Ok, Err, IsSome, option_map}
+use Rattle.std.specs.Prelude.{Result, Ok, Err, option_map}
 use Rattle.std.specs.List.{list_any, filter_map, Contains}
 use Rattle.std.specs.FinMap as maps
-use Rattle.std.proofs.lemmas.Bool.{false≢true}
 use Rattle.std.proofs.lemmas.Bool.Decides.{nat_tests}
 use Rattle.ds_base.specs.Geometry.{items_of}
 use Rattle.ds_base.specs.declared.geometry.Geom.{Geom}
@@ -46,7 +45,7 @@ use Rattle.ds_plans.specs.Locks.{MayLock, of_key, keys_of, TakesName}
 use Rattle.ds_plans.specs.Steps.{after, or_later}
 use Rattle.ds_plans.specs.declared.entries.Found.{Found}
 use Rattle.ds_plans.specs.declared.entries.Named.{Named}
-use Rattle.ds_plans.proofs.Alike.{sub_alike}
+use Rattle.ds_plans.proofs.Alike.{sub_alike, some-there}
 use Rattle.ds_plans.proofs.Dirs.{dir_goes, dir_in}
 use Rattle.ds_plans.proofs.Finding.{find_goes, named-find, none-among, used_seen}
 use Rattle.ds_plans.proofs.Going.{goes-after, goes-if}
@@ -157,10 +156,6 @@ module _ (g : Geom) (dir : Key) (seen : SeenValue) (p : Parts) (reads : Reads g 
       let is = (all i n at).1 in
       let known = some-there (look_of seen (place_sector g (places.SubBlock n))) is.read in
       sub_alike g (slice_get image) (look_of seen) stands.parts p n is.inside (agrees (place_sector g (places.SubBlock n)) known.0 known.1 ∙ sym known.1) stands.reads reads
-    where
-      some-there : (r : Option Sector) → IsSome r → (s : Sector) × (r ≡ Some s)
-      some-there None some = absurd (false≢true some)
-      some-there (Some s) some = (s, refl)
 
   pub rooms-same : ((i n : ℕ) → slice_get subs i ≡ Some n → (block : SubBlock) × HasSub g seen p n block) → (image : List Sector) (t : FileTree) (stands : StandsFor g image t) → Agrees seen image
       → used_rooms stands.parts subs ≡ used_rooms p subs

@@ -1,7 +1,5 @@
 -- What is written to take an object away is right.
-use Rattle.std.proofs.Common.{◌≡◌, ℕ, List, [], ◌∷◌, ◌++◌, Option, None, Some, refl, sym, ap, subst, ◌∙◌, slice_get, append_assoc}
-use Rattle.std.specs.Prelude.{IsSome}
-use Rattle.std.proofs.lemmas.Bool.{false≢true}
+use Rattle.std.proofs.Common.{◌≡◌, ℕ, List, [], ◌∷◌, ◌++◌, Some, refl, sym, ap, subst, ◌∙◌, slice_get, append_assoc}
 use Rattle.ds_base.specs.Geometry.{IsGeom}
 use Rattle.ds_base.specs.declared.geometry.Geom.{Geom}
 use Rattle.ds_base.specs.declared.names.Key.{Key}
@@ -36,7 +34,7 @@ use Rattle.ds_plans.specs.DirSeen.{HasDir}
 use Rattle.ds_plans.specs.PlanAsks.{IsPlanChange}
 use Rattle.ds_plans.specs.declared.entries.Found.{Found}
 use Rattle.ds_plans.proofs.Founds.{HasFound}
-use Rattle.ds_plans.proofs.Alike.{sub_alike}
+use Rattle.ds_plans.proofs.Alike.{sub_alike, some-there}
 use Rattle.ds_plans.proofs.Dirs.{body_in, dir_in}
 use Rattle.ds_remove.specs.Answers.{ended, with_ended}
 use Rattle.ds_remove.specs.EntryWalk.{HasObject}
@@ -45,10 +43,6 @@ use Rattle.ds_remove.specs.Written.{IsGiven}
 use Rattle.ds_tree.specs.Nodes.{FileTree}
 use Rattle.ds_tree.specs.declared.calls.CallOf.{CallOf}
 use Rattle.ds_tree.specs.declared.calls.TreeReply.TheVariants as replies
-
-some-there : {X : Type 0} (r : Option X) → IsSome r → (s : X) × (r ≡ Some s)
-some-there None some = absurd (false≢true some)
-some-there (Some s) some = (s, refl)
 
 -- the entry as the call names it
 abbrev entry_of : List ℕ → Key → NodeKind → Entry

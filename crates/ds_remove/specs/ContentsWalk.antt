@@ -7,7 +7,6 @@ use Rattle.std.proofs.lemmas.Bool.{false≢true}
 use Rattle.std.proofs.lemmas.Bool.Decides.{nat_tests}
 use Rattle.std.proofs.lemmas.Cmp.{nat_eq_equiv}
 use Rattle.arrayvec.specs.ArrayVec.{ArrayVec}
-use Rattle.ds_base.specs.Decoding.{IsDecoded}
 use Rattle.ds_base.specs.Geometry.{items_of}
 use Rattle.ds_base.specs.declared.geometry.Geom.{Geom}
 use Rattle.ds_base.specs.declared.geometry.Kind.TheVariants.{Fd, Pb}
@@ -22,17 +21,15 @@ use Rattle.ds_dir.specs.declared.sub_block.Entry.{Entry}
 use Rattle.ds_dir.specs.declared.sub_block.SubBlock.{SubBlock}
 use Rattle.ds_fd.specs.declared.body.Body.{Body}
 use Rattle.ds_image.specs.Asking.{Agrees}
-use Rattle.ds_image.specs.Looks.{Look}
 use Rattle.ds_image.specs.Objects.{subs_by, subs_of, ptrs_by, ptrs_of, addresses_in, blocks_by, blocks_of, used_rooms, entries_of}
 use Rattle.ds_image.specs.Owns.{IsAt}
 use Rattle.ds_image.specs.Parts.{Parts, part_at}
-use Rattle.ds_image.specs.Readings.{Reads, SpellsPtr}
+use Rattle.ds_image.specs.Readings.{Reads}
 use Rattle.ds_image.specs.SeenValues.{SeenValue, has_lock, look_of}
 use Rattle.ds_image.specs.Sound.{StandsFor, ptr_lists}
 use Rattle.ds_image.specs.SoundObjects.{AreNamesApart}
 use Rattle.ds_image.specs.declared.asks.Ask.{Ask}
 use Rattle.ds_image.specs.declared.asks.Ask.TheVariants as asks
-use Rattle.ds_image.proofs.Decoded.{decoded_same}
 use Rattle.ds_image.proofs.Listed.{ptr_listed_within}
 use Rattle.ds_image.proofs.Places.{at-append_right}
 use Rattle.ds_image.proofs.SoundParts.{list-is, objects-of}
@@ -49,10 +46,10 @@ use Rattle.ds_plans.proofs.Finding.{sub_goes, used_more, used_seen}
 use Rattle.ds_plans.proofs.Going.{goes-after, goes-if, goes-part, goes-weaker}
 use Rattle.ds_plans.proofs.Limits.{or-left, in-front, behind, in-mapped}
 use Rattle.ds_plans.proofs.Wholes.{goes-other}
-use Rattle.ds_ptr.specs.PtrBlock.{IsPtrBlock, ptr_bytes}
 use Rattle.ds_ptr.specs.declared.ptr_block.PtrBlock.{PtrBlock}
 use Rattle.ds_remove.specs.Answers.{has_entry, empty_from}
 use Rattle.ds_plans.specs.Pointers.{pointer_seen}
+use Rattle.ds_plans.proofs.Alike.{some-there, ptr_alike}
 use Rattle.ds_remove.specs.Blocks.{pointed_from, pointed_in, blocks_known}
 use Rattle.ds_remove.specs.EntryWalk.{HasObject}
 use Rattle.ds_remove.specs.Staying.{object_sectors, listed_sectors}
@@ -72,18 +69,6 @@ pub record HasContents (g : Geom) (seen : SeenValue) (p : Parts) (b : Body) : Ty
   pub bare : used_rooms p (subs_of (Some b)) ≡ []
   pub subs : (i n : ℕ) → slice_get (subs_of (Some b)) i ≡ Some n → (block : SubBlock) × HasSub g seen p n block
   pub ptrs : (i n : ℕ) → slice_get (ptrs_of (Some b)) i ≡ Some n → (block : PtrBlock) × HasPtr g seen p n block
-
--- two looks that have the same sector there, or none, have the same pointer block
-pub ptr_alike : (g : Geom) (look other : Look) (p q : Parts) (n : ℕ) → n < items_of g Pb
-    → look (place_sector g (places.PtrBlock n)) ≡ other (place_sector g (places.PtrBlock n)) → Reads g look p → Reads g other q → part_at p.ptrs n ≡ part_at q.ptrs n
-ptr_alike g look other p q n l same reads others =
-    let Spells : Option Sector → PtrBlock → Type 0 = λ x b. IsPtrBlock b × ((s : Sector) × (x ≡ Some s) × (s.bytes ≡ ptr_bytes b)) in
-    decoded_same (part_at p.ptrs n) (part_at q.ptrs n) (SpellsPtr g look n) (reads.ptrs.each n l)
-    (subst (λ (x : Option Sector). IsDecoded (part_at q.ptrs n) (Spells x)) (sym same) (others.ptrs.each n l))
-
-some-there : {X : Type 0} (r : Option X) → IsSome r → (s : X) × (r ≡ Some s)
-some-there None some = absurd (false≢true some)
-some-there (Some s) some = (s, refl)
 
 -- a pointer block that was read is that of each image that agrees
 pub ptr-in : (g : Geom) (seen : SeenValue) (p : Parts) → Reads g (look_of seen) p → (n : ℕ) → n < items_of g Pb → IsSome (look_of seen (place_sector g (places.PtrBlock n)))

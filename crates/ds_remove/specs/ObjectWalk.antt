@@ -1,9 +1,8 @@
 -- A planner that gives up all items of an object asks for what it may.
-use Rattle.std.proofs.Common.{◌≡◌, ◌≢◌, ℕ, ◌+◌, ◌*◌, ◌/◌, ◌<◌, ◌⊎◌, true, false, nat_eq, nat_lt, List, [], ◌∷◌, ◌++◌, length, map, Option, None, Some, inl, inr, refl, sym, ap, subst, ◌∙◌, arith, slice_get}
+use Rattle.std.proofs.Common.{◌≡◌, ◌≢◌, ℕ, ◌+◌, ◌*◌, ◌/◌, ◌<◌, ◌⊎◌, true, false, nat_eq, nat_lt, List, [], ◌∷◌, ◌++◌, length, map, Some, inl, inr, refl, sym, ap, subst, ◌∙◌, arith, slice_get}
 use Rattle.std.specs.Prelude.{Ok, IsSome}
 use Rattle.std.specs.List.{list_any}
 use Rattle.std.specs.FinMap as maps
-use Rattle.std.proofs.lemmas.Bool.{false≢true}
 use Rattle.std.proofs.lemmas.Cmp.{nat_eq_equiv}
 use Rattle.arrayvec.specs.ArrayVec.{ArrayVec}
 use Rattle.ds_base.specs.Geometry.{IsGeom, clusters_of, per_cluster}
@@ -37,7 +36,7 @@ use Rattle.ds_plans.specs.Goes.{Goes}
 use Rattle.ds_plans.specs.Locks.{MayLock, SeesBody, GivesUp}
 use Rattle.ds_plans.specs.PlanAsks.{PlanAsks}
 use Rattle.ds_plans.specs.declared.entries.Found.{Found}
-use Rattle.ds_plans.proofs.Alike.{sub_alike}
+use Rattle.ds_plans.proofs.Alike.{sub_alike, some-there}
 use Rattle.ds_plans.proofs.Cleared.{map_writes}
 use Rattle.ds_plans.proofs.Dirs.{body_in}
 use Rattle.ds_plans.proofs.GivingWalk.{AreMarked, give_goes}
@@ -59,10 +58,6 @@ use Rattle.ds_tree.specs.Nodes.{Entries, Dir, FileTree, node_at}
 use Rattle.ds_tree.specs.Steps.{Does}
 use Rattle.ds_tree.specs.declared.calls.CallOf.{CallOf}
 use Rattle.ds_tree.specs.declared.calls.TreeReply.TheVariants as replies
-
-some-there : {X : Type 0} (r : Option X) → IsSome r → (s : X) × (r ≡ Some s)
-some-there None some = absurd (false≢true some)
-some-there (Some s) some = (s, refl)
 
 module _ (g : Geom) (is_geom : IsGeom g) (slot : ℕ) (key : Key) (name : List ℕ) (kind : NodeKind) (seen : SeenValue) (p : Parts) (reads : Reads g (look_of seen) p)
     (dir : Body) (has : HasDir g seen p key dir) (is_dir : dir_of_key g seen p key ≡ Ok dir) (f : Found) (is_f : entry_known g seen p dir name kind ≡ Ok f)

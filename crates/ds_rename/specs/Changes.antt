@@ -1,8 +1,8 @@
 -- What is written to rename an entry is right.
-use Rattle.std.proofs.Common.{◌≡◌, ◌≢◌, ℕ, ◌*◌, ◌<◌, Bool, true, false, not, nat_lt, if◌then◌else◌, List, [], ◌∷◌, length, Option, None, Some, inl, inr, refl, sym, ap, subst, ◌∙◌, arith, slice_get}
+use Rattle.std.proofs.Common.{◌≡◌, ◌≢◌, ℕ, ◌*◌, ◌<◌, Bool, true, false, not, nat_lt, if◌then◌else◌, List, [], ◌∷◌, length, None, Some, inl, inr, refl, sym, ap, subst, ◌∙◌, arith, slice_get}
 use Rattle.std.specs.Prelude.{Ok, IsSome}
 use Rattle.std.specs.FinMap as maps
-use Rattle.std.proofs.lemmas.Bool.{cases_Bool, false≢true}
+use Rattle.std.proofs.lemmas.Bool.{cases_Bool}
 use Rattle.std.proofs.lemmas.Bool.Decides.{nat_tests}
 use Rattle.ds_base.specs.Geometry.{IsGeom, items_of}
 use Rattle.ds_base.specs.Names.{IsName}
@@ -48,7 +48,7 @@ use Rattle.ds_plans.specs.declared.entries.Found.{Found}
 use Rattle.ds_plans.specs.declared.items.FreeItem.{FreeItem}
 use Rattle.ds_plans.specs.declared.rooms.FreeRoom.{FreeRoom}
 use Rattle.ds_plans.proofs.Founds.{HasFound}
-use Rattle.ds_plans.proofs.Alike.{sub_alike}
+use Rattle.ds_plans.proofs.Alike.{sub_alike, some-there}
 use Rattle.ds_plans.proofs.Dirs.{dir_in}
 use Rattle.ds_plans.proofs.Known.{HasBlock, HasRoom}
 use Rattle.ds_plans.proofs.Limits.{map_alike}
@@ -60,10 +60,6 @@ use Rattle.ds_tree.specs.Nodes.{FileTree}
 use Rattle.ds_tree.specs.declared.calls.CallOf.{CallOf}
 use Rattle.ds_tree.specs.declared.calls.CallOf.TheVariants as calls
 use Rattle.ds_tree.specs.declared.calls.TreeReply.TheVariants.{Moved}
-
-some-there : {X : Type 0} (r : Option X) → IsSome r → (s : X) × (r ≡ Some s)
-some-there None some = absurd (false≢true some)
-some-there (Some s) some = (s, refl)
 
 -- which of two sub-blocks comes first
 record IsOrdered (n m : ℕ) : Type 0 where

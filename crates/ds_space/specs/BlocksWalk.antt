@@ -1,11 +1,10 @@
 -- A planner that wants the blocks of a file from one page on asks for what it may.
-use Rattle.std.proofs.Common.{◌≡◌, ℕ, zero, suc, ◌+◌, ◌-◌, ◌*◌, ◌/◌, ◌^◌, ◌<◌, ◌≤◌, true, false, nat_eq, nat_le, nat_lt, if◌then◌else◌, List, [], ◌∷◌, ◌++◌, length, take, drop, Option, None, Some, refl, sym, ap, subst, ◌∙◌, slice_get, is_some, append_assoc, length-append, length-take, length-drop, arith}
+use Rattle.std.proofs.Common.{◌≡◌, ℕ, zero, suc, ◌+◌, ◌-◌, ◌*◌, ◌/◌, ◌^◌, ◌<◌, ◌≤◌, true, false, nat_eq, nat_le, nat_lt, if◌then◌else◌, List, [], ◌∷◌, ◌++◌, length, take, drop, None, Some, refl, sym, ap, subst, ◌∙◌, slice_get, is_some, append_assoc, length-append, length-take, length-drop, arith}
 use Rattle.std.specs.Prelude.{Result, Ok, Err, IsSome}
 use Rattle.std.specs.List.{flat_map, list_any}
 use Rattle.std.proofs.lemmas.Bool.{false≢true}
 use Rattle.std.proofs.lemmas.Bool.Decides.{nat_tests}
 use Rattle.std.proofs.lemmas.Cmp.{nat_eq_equiv}
-use Rattle.ds_base.specs.Decoding.{IsDecoded}
 use Rattle.ds_base.specs.Geometry.{items_of}
 use Rattle.ds_base.specs.declared.geometry.Geom.{Geom}
 use Rattle.ds_base.specs.declared.geometry.Kind.TheVariants.{Pb}
@@ -15,15 +14,13 @@ use Rattle.ds_base.specs.declared.sectors.Sector.{Sector}
 use Rattle.ds_bytes.specs.Fields.{AllBelow}
 use Rattle.ds_fd.specs.declared.body.Body.{Body}
 use Rattle.ds_image.specs.Asking.{Agrees}
-use Rattle.ds_image.specs.Looks.{Look}
 use Rattle.ds_image.specs.Objects.{addresses_in, ptrs_by, ptrs_of}
 use Rattle.ds_image.specs.Parts.{Parts, part_at}
-use Rattle.ds_image.specs.Readings.{Reads, SpellsPtr}
+use Rattle.ds_image.specs.Readings.{Reads}
 use Rattle.ds_image.specs.SeenValues.{SeenValue, look_of}
 use Rattle.ds_image.specs.Sound.{StandsFor}
 use Rattle.ds_image.specs.declared.asks.Ask.{Ask}
 use Rattle.ds_image.specs.declared.asks.Ask.TheVariants as asks
-use Rattle.ds_image.proofs.Decoded.{decoded_same}
 use Rattle.ds_image.proofs.Sizes.{body_is}
 use Rattle.ds_layout.specs.Places.{place_sector}
 use Rattle.ds_layout.specs.declared.places.Place.TheVariants as places
@@ -35,7 +32,6 @@ use Rattle.ds_plans.proofs.Dirs.{body_in}
 use Rattle.ds_plans.proofs.Going.{goes-after, goes-if, goes-part}
 use Rattle.ds_plans.proofs.Limits.{or-left, or-right}
 use Rattle.ds_plans.specs.declared.stops.Stop.{Stop}
-use Rattle.ds_ptr.specs.PtrBlock.{IsPtrBlock, ptr_bytes}
 use Rattle.ds_ptr.specs.declared.ptr_block.PtrBlock.{PtrBlock}
 use Rattle.ds_sizes.specs.Pages.{ptrs_in, blocks_in}
 use Rattle.ds_sizes.proofs.BuiltPages.{pages-joined}
@@ -44,6 +40,7 @@ use Rattle.ds_sizes.proofs.PointerSectors.{pointer-listed, pointer-in_range, poi
 use Rattle.ds_sizes.proofs.SpelledBlocks.{size-is, spelled-blocks}
 use Rattle.ds_space.specs.Below.{below-take, below-flat}
 use Rattle.ds_plans.specs.Pointers.{pointer_seen}
+use Rattle.ds_plans.proofs.Alike.{ptr_alike}
 use Rattle.ds_space.specs.Blocks.{addresses_seen, blocks_of, blocks_seen, cut, pointers_in, pointers_from}
 use Rattle.ds_space.specs.FileWalk.{HasFile}
 use Rattle.ds_space.specs.Holding.{MayHold, MayRead, of_pointer}
@@ -52,15 +49,6 @@ use Rattle.ds_space.specs.SeenBlocks.{small-seen, large-seen}
 use Rattle.ds_space.specs.declared.blocks.Blocks.{Blocks}
 use Rattle.ds_tree.specs.Nodes.{FileTree}
 use Rattle.ds_tree.specs.declared.calls.CallOf.TheVariants.{Resize}
-
--- two looks that have the same sector there have the same pointer block
-pub ptr_alike : (g : Geom) (look other : Look) (p q : Parts) (n : ℕ) → n < items_of g Pb
-    → look (place_sector g (places.PtrBlock n)) ≡ other (place_sector g (places.PtrBlock n)) → Reads g look p → Reads g other q
-    → part_at p.ptrs n ≡ part_at q.ptrs n
-ptr_alike g look other p q n l same reads others =
-    let Spells : Option Sector → PtrBlock → Type 0 = λ x b. IsPtrBlock b × ((s : Sector) × (x ≡ Some s) × (s.bytes ≡ ptr_bytes b)) in
-    decoded_same (part_at p.ptrs n) (part_at q.ptrs n) (SpellsPtr g look n) (reads.ptrs.each n l)
-    (subst (λ (x : Option Sector). IsDecoded (part_at q.ptrs n) (Spells x)) (sym same) (others.ptrs.each n l))
 
 listed-any : (xs : List ℕ) (k n : ℕ) → slice_get xs k ≡ Some n → list_any (nat_eq n) xs ≡ true
 listed-any [] k n at = absurd cc

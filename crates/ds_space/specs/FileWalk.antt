@@ -31,6 +31,7 @@ use Rattle.ds_plans.proofs.Going.{goes-after, goes-if}
 use Rattle.ds_plans.specs.declared.stops.Ending.TheVariants as endings
 use Rattle.ds_plans.specs.declared.stops.Stop.{Stop}
 use Rattle.ds_plans.specs.declared.stops.Stop.TheVariants as stops
+use Rattle.ds_plans.proofs.Alike.{none-there}
 use Rattle.ds_sizes.proofs.Refused.{resize-past, resize-unused, resize-other_life, resize-dir, resize-too_big, resize-too_much, resize-same}
 use Rattle.ds_space.specs.Files.{difference, file_by, body_of_file, body_to_size, file_to_size}
 use Rattle.ds_space.specs.Holding.{MayHold, the_file, MayRead, of_file}
@@ -62,10 +63,6 @@ right-true false b e = absurd (false≢true e)
 
 eq-of : (a b : ℕ) → (a == b) ≡ true → a ≡ b
 eq-of a b e = grind (arith, nat_tests, e)
-
-none-there : {X : Type 0} (r : Option X) → is_some r ≡ false → r ≡ None
-none-there None none = refl
-none-there (Some x) none = absurd (false≢true (sym none))
 
 module _ (g : Geom) (slot : ℕ) (key : Key) (size : ℕ) (seen : SeenValue) (p : Parts) (reads : Reads g (look_of seen) p) where
   abbrev call : CallOf Key
