@@ -1,29 +1,17 @@
 -- What objects list, and tables of users that grow object by object.
-use Rattle.std.proofs.Common.{◌≡◌, ◌≢◌, ℕ, ◌+◌, ◌<◌, ◌≤◌, cond, false, nat_le, eqb, List, [], ◌∷◌, ◌++◌, length, take, map, filter, get_or, Option, Some, None, refl, sym, ap, subst, ◌∙◌, append_assoc, arith}
+use Rattle.std.proofs.Common.{◌≡◌, ◌≢◌, ℕ, ◌+◌, ◌<◌, ◌≤◌, cond, eqb, List, [], ◌∷◌, ◌++◌, length, take, map, filter, get_or, Some, None, refl, sym, ap, subst, ◌∙◌, append_assoc, arith}
 use Rattle.std.specs.Prelude.{slice_get}
 use Rattle.std.specs.List.{flat_map, range_with_len}
 use Rattle.std.proofs.lemmas.Bool.{ne_eqb}
-use Rattle.std.proofs.lemmas.Bool.Decides.{nat_tests}
 use Rattle.std.proofs.lemmas.List.{map-append, map_more, append-nil}
 use Rattle.std.proofs.lemmas.List.Concat.{flat_map-append}
 use Rattle.std.proofs.lemmas.List.Elements.{filter-append}
 use Rattle.std.proofs.lemmas.List.Folds.{flat_map-map}
 use Rattle.std.proofs.lemmas.List.FromFn.{map-range_with_len_more}
 use Rattle.ds_base.specs.declared.geometry.Kind.{Kind}
-use Rattle.ds_base.specs.declared.names.NodeKind.TheVariants as kinds
-use Rattle.ds_fd.specs.declared.body.Body.{Body}
-use Rattle.ds_image.specs.Objects.{addresses_in, ptrs_of, blocks_of}
-use Rattle.ds_image.specs.Parts.{Parts, part_at}
 use Rattle.ds_image.specs.Users.{users, uses_by, KnowsUsers}
 use Rattle.ds_check.specs.declared.findings.Find.TheVariants.{Twice}
 use Rattle.ds_check.specs.Objects.{twice}
-
--- the blocks of a file of more than 96 are in its pointer blocks
-pub blocks-pointed : (p : Parts) (body : Option Body) (b : Body) → body ≡ Some b → b.kind ≡ Some kinds.File → 96 < b.count
-    → take b.count (flat_map (λ n. addresses_in (part_at p.ptrs n)) (ptrs_of body)) ≡ blocks_of p body
-blocks-pointed p body b there kind above =
-    let test : nat_le b.count 96 ≡ false = grind (arith, nat_tests) in
-    rw (there, kind, test) refl
 
 -- Uses that are not noted
 

@@ -18,7 +18,6 @@ pub mod NoFinds
 pub mod OneAnswer
 pub mod Pending
 pub mod PointedNumbers
-pub mod Reading
 pub mod RisingLists
 pub mod Rows
 pub mod SpelledPointers

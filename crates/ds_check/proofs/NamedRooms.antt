@@ -1,5 +1,5 @@
 -- Rooms of directories, and the objects that they name.
-use Rattle.std.proofs.Common.{◌≡◌, ◌≢◌, ℕ, zero, suc, ◌+◌, ◌<◌, ◌≤◌, cond, Bool, eqb, List, [], ◌∷◌, ◌++◌, length, take, get_or, Option, None, Some, refl, sym, ap, ◌∙◌, append_assoc, arith}
+use Rattle.std.proofs.Common.{◌≡◌, ◌≢◌, ℕ, ◌+◌, ◌<◌, ◌≤◌, cond, Bool, eqb, List, [], ◌∷◌, ◌++◌, length, take, get_or, Option, None, Some, refl, sym, ap, ◌∙◌, append_assoc, arith}
 use Rattle.std.specs.List.{flat_map, filter_map, range_with_len}
 use Rattle.std.proofs.lemmas.Bool.{ne_eqb}
 use Rattle.std.proofs.lemmas.Grind.{flat_map-append}
@@ -11,6 +11,7 @@ use Rattle.ds_image.specs.NameCounts.{CountsNames}
 use Rattle.ds_image.specs.Objects.{rooms_in, rooms_of}
 use Rattle.ds_image.specs.Parts.{Parts, part_at}
 use Rattle.ds_check.specs.Objects.{rooms_at, named_in}
+use Rattle.ds_check.proofs.Rows.{range-more}
 
 -- the rooms of one more sub-block
 pub rooms-more : (p : Parts) (subs : List ℕ) (i : ℕ) → i < length subs
@@ -22,18 +23,6 @@ rooms-more p subs i l =
 -- the objects that the rooms of the first directories name
 abbrev pub named_below : Parts → ℕ → List ℕ
 named_below p n = flat_map (λ o. filter_map (named_in p) (rooms_at p o)) (range_with_len 0 n)
-
--- the numbers below n, and then n
-range-push : (a n : ℕ) → range_with_len a (suc n) ≡ range_with_len a n ++ (a + n) ∷ []
-range-push a zero = ap (λ k. k ∷ []) (let same : a ≡ a + 0 = omega arith in same)
-range-push a (suc n) =
-    ap (λ xs. a ∷ xs) (range-push (a + 1) n ∙ ap (λ k. range_with_len (a + 1) n ++ k ∷ []) (let same : a + 1 + n ≡ a + suc n = omega arith in same))
-
-pub range-more : (n : ℕ) → range_with_len 0 (n + 1) ≡ range_with_len 0 n ++ n ∷ []
-range-more n =
-    let next : n + 1 ≡ suc n = omega arith in
-    let here : 0 + n ≡ n = omega arith in
-    ap (range_with_len 0) next ∙ range-push 0 n ∙ ap (λ k. range_with_len 0 n ++ k ∷ []) here
 
 -- those of one more directory
 pub named-more : (p : Parts) (n : ℕ) → named_below p (n + 1) ≡ named_below p n ++ filter_map (named_in p) (rooms_at p n)

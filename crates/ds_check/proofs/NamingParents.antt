@@ -1,9 +1,9 @@
 -- Parents put down directory by directory.
-use Rattle.std.proofs.Common.{◌≡◌, ◌≢◌, ℕ, ◌+◌, ◌<◌, ◌≤◌, ◌⊎◌, cond, Bool, eqb, List, [], ◌∷◌, ◌++◌, length, take, drop, set, Option, None, Some, refl, sym, ap, ◌∙◌, subst, inl, inr, arith}
+use Rattle.std.proofs.Common.{◌≡◌, ◌≢◌, ℕ, ◌+◌, ◌<◌, ◌≤◌, ◌⊎◌, cond, Bool, eqb, List, [], ◌∷◌, ◌++◌, length, set, Option, None, Some, refl, sym, ap, ◌∙◌, subst, inl, inr, arith}
 use Rattle.std.specs.Prelude.{replicate}
 use Rattle.std.specs.List.{filter_map}
 use Rattle.std.proofs.lemmas.Bool.{cases_eq, cases_lt, eq-eqb, ne_eqb}
-use Rattle.std.proofs.lemmas.List.{append-nil, drop_all, take_all, length-set, length-replicate, get_or-set_same, get_or-set_other, get_or-replicate, get_or_past}
+use Rattle.std.proofs.lemmas.List.{append-nil, length-set, length-replicate, get_or-set_same, get_or-set_other, get_or-replicate, get_or_past}
 use Rattle.std.proofs.lemmas.List.Sums.{sum_by_push}
 use Rattle.ds_image.specs.Parents.{parent_of}
 use Rattle.ds_image.specs.Parts.{Parts}
@@ -89,9 +89,3 @@ namers-more p n old new are sets = record {
     | inr other ↦ are.none o dir (omega (arith, there, sets.count)) (omega (arith, before, other)) (sets.none o is).0
   ];
 }
-
--- a list that is written in the place of one as long
-pub written-all : {X : Type 0} (n : ℕ) (new items : List X) → n ≡ length items → length new ≡ length items
-    → take n (new ++ drop (length new) items) ≡ new
-written-all n new items len same =
-    ap (λ rest. take n (new ++ rest)) (drop_all (length new) items (omega (arith, same))) ∙ ap (take n) (append-nil new) ∙ take_all n new (omega (arith, len, same))

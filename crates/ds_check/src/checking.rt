@@ -11,7 +11,6 @@ ghost use Rattle.ds_check.specs.Objects.{metadata_stage, addresses_stage, sharin
 ghost use Rattle.ds_check.specs.Rows.{first_found};
 
 use crate::addresses::note_addresses;
-use crate::bits::bits_in;
 use crate::fronts::found_in_front;
 use crate::lost::note_lost;
 use crate::marking::note_marking;
@@ -21,7 +20,7 @@ use crate::reports::Report;
 use crate::sharing::note_sharing;
 use crate::volumes::volume_in;
 use ds_base::{Geom, Kind, NoMemory, Sector, SectorNo};
-use ds_image::{ImageFault, PartsInMemory, overlay};
+use ds_image::{ImageFault, PartsInMemory, bits_in, overlay};
 use std::alloc::Global;
 use thiserror::Error;
 use uuid::Uuid;

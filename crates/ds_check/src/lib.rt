@@ -2,7 +2,6 @@
 #![tactic(auto)]
 
 mod addresses;
-mod bits;
 #[cfg(test)]
 mod changes_for_tests;
 mod checking;

@@ -1,14 +1,13 @@
 //! The items that the objects of an image list.
 ghost use Rattle.std.specs.Prelude.{◌≡◌, ◌≤◌, length, take, IfOk};
-ghost use Rattle.std.specs.List.{flat_map};
 ghost use Rattle.ds_tree.specs.Counts.{pointer_blocks};
-ghost use Rattle.ds_image.specs.Objects.{subs_of, ptrs_of, blocks_of, addresses_in};
+ghost use Rattle.ds_image.specs.Objects.{subs_of, addresses_in};
 ghost use Rattle.ds_image.specs.Parts.{part_at};
 ghost use Rattle.ds_check.specs.Objects.{listed_by};
 
 use ds_base::{Kind, NoMemory, NodeKind, ObjNo, Sector};
 use ds_fd::Body;
-use ds_image::PartsInMemory;
+use ds_image::{PartsInMemory, blocks_of, ptrs_of};
 use ds_ptr::PtrBlock;
 use std::alloc::Global;
 
@@ -68,19 +67,6 @@ pub(crate) fn subs_of(body: &Option<Body>) -> &[u32]
     }
 }
 
-/// The pointer blocks that a file lists; none of anything else.
-pub(crate) fn ptrs_of(body: &Option<Body>) -> &[u32]
-    ensures { result.now ≡ ptrs_of body.now }
-{
-    let Some(body) = body else {
-        return &[];
-    };
-    match body.kind {
-        Some(NodeKind::File) => first(&body.addresses, pointer_blocks(body.count)),
-        _ => &[],
-    }
-}
-
 pub(crate) fn pointer_blocks(count: u32) -> usize
     ensures { result ≡ pointer_blocks count }
 {
@@ -88,47 +74,6 @@ pub(crate) fn pointer_blocks(count: u32) -> usize
         return 0;
     }
     count.div_ceil(128) as usize
-}
-
-/// The blocks of a file; none of anything else.
-fn blocks_of(
-    alloc: Global,
-    parts: &PartsInMemory<&[Sector]>,
-    body: &Option<Body>,
-) -> Result<Vec<u32>, NoMemory>
-    ensures { IfOk result (λ v. v.items ≡ blocks_of parts.now body.now) }
-{
-    let Some(it) = body else {
-        return Ok(Vec::new(alloc));
-    };
-    if it.kind != Some(NodeKind::File) {
-        return Ok(Vec::new(alloc));
-    }
-    let count = it.count as usize;
-    if it.count <= 96 {
-        return copied(alloc, first(&it.addresses, count));
-    }
-    let mut blocks = pointed_by(alloc, parts, ptrs_of(body))?;
-    blocks.truncate(count);
-    Ok(blocks)
-}
-
-/// The addresses in pointer blocks, one block after another.
-fn pointed_by(
-    alloc: Global,
-    parts: &PartsInMemory<&[Sector]>,
-    ptrs: &[u32],
-) -> Result<Vec<u32>, NoMemory>
-    ensures { IfOk result (λ v. v.items ≡ flat_map (λ n. addresses_in (part_at parts.now.ptrs n)) ptrs.now) }
-{
-    let mut addresses = Vec::new(alloc);
-    for number in ptrs {
-        let block = parts.ptr(*number);
-        addresses
-            .extend_from_slice(addresses_in(&block))
-            .map_err(|_| NoMemory)?;
-    }
-    Ok(addresses)
 }
 
 /// The addresses in a pointer block; one that is not spelled has none.

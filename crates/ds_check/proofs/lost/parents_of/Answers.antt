@@ -5,7 +5,8 @@ use Rattle.ds_base.specs.Geometry.{items_of}
 use Rattle.ds_base.specs.declared.geometry.Kind.TheVariants.{Fd}
 use Rattle.ds_check.specs.Lost.{SetsParents, AreNamers, named_by}
 use Rattle.ds_check.specs.Objects.{named_in}
-use Rattle.ds_check.proofs.NamingParents.{namers-more, written-all}
+use Rattle.ds_check.proofs.NamingParents.{namers-more}
+use Rattle.ds_image.proofs.ListParents.{written-all}
 use Rattle.ds_check.proofs.lost.parents_of.Goals as goal
 
 pub loop-dir-preserved : goal.loop-dir-preserved
