@@ -1,6 +1,5 @@
 -- Bodies that planners make: that of an empty object, and that of a directory with one sub-block more.
 use Rattle.std.proofs.Common.{◌≡◌, ℕ, ◌+◌, ◌-◌, ◌^◌, ◌<◌, ◌≤◌, List, length, drop, get_or, replicate, slice_set, Some, refl, sym, ap, subst, ◌∙◌, length-set, get_or-set_same, get_or-set_other, inl, inr, arith}
-use Rattle.std.specs.Prelude.{slice_index}
 use Rattle.std.proofs.lemmas.Bool.{cases_eq}
 use Rattle.std.proofs.lemmas.List.{drop-replicate, drop-set-lt, drop-drop}
 use Rattle.ds_base.specs.declared.names.NodeKind.{NodeKind}
@@ -9,10 +8,7 @@ use Rattle.ds_bytes.specs.Fields.{AllBelow, zeros}
 use Rattle.ds_fd.specs.Body.{IsBody, links_of, most_count, least_birth, addresses_used}
 use Rattle.ds_fd.specs.declared.body.Body.{Body}
 use Rattle.ds_changes.specs.Bodies.{IsEmptyBody, IsGrownBody}
-use Rattle.ds_image.proofs.FreshLists.{get_or-replicate_same}
-
-no_addresses : (n limit : ℕ) → 0 < limit → AllBelow limit (replicate n 0)
-no_addresses n limit some i = let zero_there : slice_index (replicate n 0) i ≡ 0 = get_or-replicate_same n i 0 in omega arith
+use Rattle.ds_image.proofs.FreshVolume.{no_addresses}
 
 none-used : (kind : NodeKind) → addresses_used (Some kind) 0 ≡ 0
 none-used kinds.Dir = refl

@@ -17,7 +17,6 @@ use Rattle.ds_dir.specs.declared.sub_block.SubBlock.{SubBlock}
 use Rattle.ds_fd.proofs.Laws.{body_same}
 use Rattle.ds_fd.specs.Body.{IsBody, body_bytes}
 use Rattle.ds_fd.specs.declared.body.Body.{Body}
-use Rattle.ds_layout.proofs.Bounds.{bounds}
 use Rattle.ds_layout.proofs.SamePlace.{same_place}
 use Rattle.ds_layout.specs.Places.{IsPlace, place_sector}
 use Rattle.ds_layout.specs.declared.places.Place.{Place}
@@ -31,6 +30,8 @@ use Rattle.ds_image.specs.Readings.{SpellsBody, SpellsBits, SpellsSub, SpellsPtr
 use Rattle.ds_image.proofs.FreshLists.{decoded_one}
 use Rattle.ds_image.proofs.LaidOver.{slice_get-set}
 use Rattle.ds_image.proofs.SoundParts.{each_kind}
+use Rattle.ds_image.proofs.FreshVolume.{same_bytes}
+use Rattle.ds_image.proofs.Readings.{few_clusters}
 use Rattle.ds_changes.specs.Changed.{with_maps}
 
 -- Places of a list after a write
@@ -138,12 +139,6 @@ module _ (g : Geom) (is : IsGeom g) (image : List Sector) (at : Place) (s : Sect
   written : (bytes : List ℕ) → place_sector g at < length image → s.bytes ≡ bytes → HasBytes after (place_sector g at) bytes
   written bytes within spelled = (s, slice_get-set_same image (place_sector g at) s within, spelled)
 
--- the bytes at a number are determined
-same-bytes : (look : Look) (at : ℕ) (a b : List ℕ) → HasBytes look at a → HasBytes look at b → a ≡ b
-same-bytes look at a b p q =
-    let same : p.0 ≡ q.0 = let first : look at ≡ Some p.0 = p.1 in let second : look at ≡ Some q.0 = q.1 in cc in
-    sym p.2 ∙ ap (λ (s : Sector). s.bytes) same ∙ q.2
-
 -- the body of a descriptor was written
 pub reads-body : (g : Geom) (image : List Sector) (p : Parts) (o : ℕ) (b : Body) (s : Sector) → IsGeom g → o < items_of g Fd
     → place_sector g (places.Body o) < length image → b.object ≡ o → IsBody b → s.bytes ≡ body_bytes b → Reads g (slice_get image) p
@@ -160,7 +155,7 @@ reads-body g image p o b s is l within number body spelled reads =
           (λ i small apart. body-as g look look' i (elsewhere g is image at s l (places.Body i) small (other i apart)))
           (λ i small apart. body-as g look' look i (sym (elsewhere g is image at s l (places.Body i) small (other i apart))))
           (decoded_one b (SpellsBody g look' o) (number, body, has)
-          (λ w d. body_same w b d.1 body (same-bytes look' (place_sector g at) (body_bytes w) (body_bytes b) d.2 has)))
+          (λ w d. body_same w b d.1 body (same_bytes look' (place_sector g at) (body_bytes w) (body_bytes b) d.2 has)))
           reads.bodies;
       maps = maps-all_stay g is image at s l p q (λ kind c e. absurd (cc)) (each_kind (λ kind. maps_of q kind ≡ maps_of p kind) refl refl refl refl) reads.maps;
       subs = subs-stay g is image at s l p.subs (λ n e. absurd (cc)) reads.subs;
@@ -185,7 +180,7 @@ reads-sub g image p n b s is l within block spelled reads =
           (λ i small apart. sub-as g look look' i (elsewhere g is image at s l (places.SubBlock i) small (other i apart)))
           (λ i small apart. sub-as g look' look i (sym (elsewhere g is image at s l (places.SubBlock i) small (other i apart))))
           (decoded_one b (SpellsSub g look' n) (block, has)
-          (λ w d. sub_same w b d.0 block (same-bytes look' (place_sector g at) (sub_bytes w) (sub_bytes b) d.1 has)))
+          (λ w d. sub_same w b d.0 block (same_bytes look' (place_sector g at) (sub_bytes w) (sub_bytes b) d.1 has)))
           reads.subs;
       ptrs = ptrs-stay g is image at s l p.ptrs (λ n e. absurd (cc)) reads.ptrs;
     }
@@ -209,15 +204,9 @@ reads-ptr g image p n b s is l within block spelled reads =
           (λ i small apart. ptr-as g look look' i (elsewhere g is image at s l (places.PtrBlock i) small (other i apart)))
           (λ i small apart. ptr-as g look' look i (sym (elsewhere g is image at s l (places.PtrBlock i) small (other i apart))))
           (decoded_one b (SpellsPtr g look' n) (block, has)
-          (λ w d. ptr_same w b d.0 block (same-bytes look' (place_sector g at) (ptr_bytes w) (ptr_bytes b) d.1 has)))
+          (λ w d. ptr_same w b d.0 block (same_bytes look' (place_sector g at) (ptr_bytes w) (ptr_bytes b) d.1 has)))
           reads.ptrs;
     }
-
-few-clusters : (g : Geom) (kind : Kind) (cluster : ℕ) → IsGeom g → cluster < clusters_of g kind → cluster < 256
-few-clusters g Fd cluster is l = omega (arith, (bounds g is).fd_clusters)
-few-clusters g Sb cluster is l = omega (arith, (bounds g is).sb_clusters)
-few-clusters g Pb cluster is l = omega (arith, (bounds g is).pb_clusters)
-few-clusters g Fb cluster is l = omega (arith, (bounds g is).fb_clusters)
 
 -- one kind has other bitmaps, and the three others have the same
 each-with_maps : (P : Kind → List (Option Bitmap) → Type 0) (p : Parts) (kind : Kind) (maps : List (Option Bitmap)) → P kind maps
@@ -259,8 +248,8 @@ reads-map g image p kind c b s is l within bits spelled reads =
     let other : (i : ℕ) → i ≢ c → places.Bitmap kind i ≢ at = λ i apart e. apart (let same : i ≡ c = cc in same) in
     let most = most_per_cluster g kind is in
     let one : (w : Bitmap) → SpellsBits g look' kind c w → w ≡ b = λ w d.
-    bits_same w b (omega (arith, d.0.same_cluster, few-clusters g kind c is l)) (omega (arith, bits.same_cluster, few-clusters g kind c is l)) (omega (arith, d.0.count)) (omega (arith, bits.count))
-    (same-bytes look' (place_sector g at) (bits_bytes w) (bits_bytes b) d.1 has) in
+    bits_same w b (omega (arith, d.0.same_cluster, few_clusters g kind c is l)) (omega (arith, bits.same_cluster, few_clusters g kind c is l)) (omega (arith, d.0.count)) (omega (arith, bits.count))
+    (same_bytes look' (place_sector g at) (bits_bytes w) (bits_bytes b) d.1 has) in
     record {
       bodies = subst (IsReading (items_of g Fd) (SpellsBody g look')) (sym (bodies-with_maps p kind maps)) (bodies-stay g is image at s l p.bodies (λ o e. absurd (cc)) reads.bodies);
       maps = each-with_maps (λ k xs. IsReading (clusters_of g k) (SpellsBits g look' k) xs) p kind maps

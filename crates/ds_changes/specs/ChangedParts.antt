@@ -1,5 +1,5 @@
 -- The parts that changed sectors spell.
-use Rattle.std.specs.Prelude.{ℕ, List, slice_set, Some}
+use Rattle.std.specs.Prelude.{ℕ, slice_set, Some}
 use Rattle.ds_bitmap.specs.Bits.{Bitmap}
 use Rattle.ds_dir.specs.declared.sub_block.SubBlock.{SubBlock}
 use Rattle.ds_fd.specs.declared.body.Body.{Body}

@@ -29,6 +29,7 @@ use Rattle.ds_image.specs.Users as usage
 use Rattle.ds_image.proofs.NamesApart.{apart-none}
 use Rattle.ds_image.proofs.OwningUsers.{owns-from_users}
 use Rattle.ds_image.proofs.RootedTrees.{named_bit}
+use Rattle.ds_image.proofs.ReachedObjects.{used-within}
 use Rattle.ds_check.specs.declared.findings.Find.TheVariants as finds
 use Rattle.ds_check.specs.Lost.{times}
 use Rattle.ds_check.specs.Naming.{misnamed_at}
@@ -36,7 +37,7 @@ use Rattle.ds_check.specs.Objects.{same_kind, is_body_of, is_dangling, has_name,
 use Rattle.ds_check.proofs.CleanItems.{users-listed, uses-same, listed-absent}
 use Rattle.ds_check.proofs.CleanMetadata.{not-false, both-true}
 use Rattle.ds_check.proofs.EntryRooms.{kept-some}
-use Rattle.ds_check.proofs.NamedOnce.{stages, not-dangling, not-repeated, room-within, used-within, gives-object}
+use Rattle.ds_check.proofs.NamedOnce.{stages, not-dangling, not-repeated, room-within, gives-object}
 use Rattle.ds_check.proofs.NoFinds.{not-found, row-none}
 
 -- the entries in rooms that are in use

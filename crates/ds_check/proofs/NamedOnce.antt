@@ -18,6 +18,7 @@ use Rattle.ds_image.specs.Objects.{is_used, rooms_of, subs_of, tree_of}
 use Rattle.ds_image.specs.Parents.{parent_of}
 use Rattle.ds_image.specs.Parts.{Parts, part_at}
 use Rattle.ds_image.specs.TreeParents.{AreParentsIn}
+use Rattle.ds_image.proofs.ReachedObjects.{used-within}
 use Rattle.ds_check.specs.Lost.{named_by, times, AreNamers}
 use Rattle.ds_check.specs.declared.findings.Find.TheVariants.{Dangling, Again}
 use Rattle.ds_check.specs.declared.findings.Find.TheVariants as finds
@@ -90,12 +91,6 @@ one-name true names o is other none =
     let wanted : wanted_names o ≡ 1 = ap (λ b. if b then 0 else 1) (ne_eqb o 0 other) in
     same ∙ wanted
 one-name false names o is other none = absurd (false≢true is)
-
-pub used-within : (p : Parts) (o : ℕ) → is_used (part_at p.bodies o) ≡ true → o < length p.bodies
-used-within p o used = elim (cases_lt o (length p.bodies)) [
-  | inl below ↦ below
-  | inr past ↦ absurd (false≢true (ap is_used (sym (get_or_past p.bodies o None past)) ∙ used))
-]
 
 -- an object without a body has no rooms
 pub room-within : (p : Parts) (dir r : ℕ) (room : Option Entry) → slice_get (rooms_at p dir) r ≡ Some room → dir < length p.bodies

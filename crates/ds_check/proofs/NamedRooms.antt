@@ -6,19 +6,10 @@ use Rattle.std.proofs.lemmas.Grind.{flat_map-append}
 use Rattle.std.proofs.lemmas.List.{append-nil, take_more}
 use Rattle.std.proofs.lemmas.List.Elements.{filter_map-append}
 use Rattle.std.proofs.lemmas.List.Sums.{sum_by_push}
-use Rattle.ds_dir.specs.declared.sub_block.Entry.{Entry}
 use Rattle.ds_image.specs.NameCounts.{CountsNames}
-use Rattle.ds_image.specs.Objects.{rooms_in, rooms_of}
-use Rattle.ds_image.specs.Parts.{Parts, part_at}
+use Rattle.ds_image.specs.Parts.{Parts}
 use Rattle.ds_check.specs.Objects.{rooms_at, named_in}
 use Rattle.ds_check.proofs.Rows.{range-more}
-
--- the rooms of one more sub-block
-pub rooms-more : (p : Parts) (subs : List ℕ) (i : ℕ) → i < length subs
-    → rooms_of p (take (i + 1) subs) ≡ rooms_of p (take i subs) ++ rooms_in (part_at p.subs (get_or subs i 0))
-rooms-more p subs i l =
-    let f : ℕ → List (Option Entry) = λ n. rooms_in (part_at p.subs n) in
-    ap (flat_map f) (take_more subs i 0 l) ∙ flat_map-append f (take i subs) (get_or subs i 0 ∷ []) ∙ ap (λ rest. flat_map f (take i subs) ++ rest) (append-nil (f (get_or subs i 0)))
 
 -- the objects that the rooms of the first directories name
 abbrev pub named_below : Parts → ℕ → List ℕ

@@ -1,17 +1,15 @@
 -- The names in the tree that parts spell are those in the rooms of its directories.
-use Rattle.std.proofs.Common.{◌≡◌, ℕ, List, length, map, Option, None, Some, refl, sym, ap, ◌∙◌, inl, inr, arith}
+use Rattle.std.proofs.Common.{◌≡◌, ℕ, List, length, map, None, sym, ap, ◌∙◌, inl, inr, arith}
 use Rattle.std.specs.Cmp.Lexicographic.{nat_list_cmp_total}
 use Rattle.std.specs.FinMap as maps
 use Rattle.std.proofs.lemmas.Bool.{cases_lt}
 use Rattle.std.proofs.lemmas.List.{get_or-map, get_or_past, length-map}
-use Rattle.ds_base.specs.declared.names.NodeKind.{NodeKind}
-use Rattle.ds_base.specs.declared.names.NodeKind.TheVariants as kinds
 use Rattle.ds_dir.specs.declared.sub_block.Entry.{Entry}
-use Rattle.ds_fd.specs.declared.body.Body.{Body}
 use Rattle.ds_tree.specs.Nodes.{Entries, Object, unborn, object_at, node_at}
 use Rattle.ds_tree.specs.Trees as trees
-use Rattle.ds_image.specs.Objects.{subs_by, node_by, object_of, tree_of, subs_of, entries_of, used_rooms}
+use Rattle.ds_image.specs.Objects.{object_of, tree_of, subs_of, entries_of, used_rooms}
 use Rattle.ds_image.specs.Parts.{Parts, part_at}
+use Rattle.ds_image.proofs.TreeParts.{entries-of}
 use Rattle.ds_check.specs.Objects.{rooms_at}
 use Rattle.ds_check.proofs.EntryRooms.{found_in}
 
@@ -22,15 +20,6 @@ object-is p o = elim (cases_lt o (length p.bodies)) [
   | inl below ↦ get_or-map (object_of p) p.bodies o None unborn below
   | inr past ↦ get_or_past (map (object_of p) p.bodies) o unborn (omega (arith, length-map p.bodies (object_of p))) ∙ ap (object_of p) (sym (get_or_past p.bodies o None past))
 ]
-
-entries-by : (p : Parts) (b : Body) (kind : Option NodeKind) → trees.entries_of (node_by p b kind) ≡ entries_of p (subs_by b kind)
-entries-by p b None = refl
-entries-by p b (Some kinds.Dir) = refl
-entries-by p b (Some kinds.File) = refl
-
-entries-of : (p : Parts) (body : Option Body) → trees.entries_of (object_of p body).node ≡ entries_of p (subs_of body)
-entries-of p None = refl
-entries-of p (Some b) = entries-by p b b.kind
 
 entries-are : (p : Parts) (o : ℕ) → trees.entries_of (node_at (tree_of p) o) ≡ entries_of p (subs_of (part_at p.bodies o))
 entries-are p o = ap (λ (x : Object). trees.entries_of x.node) (object-is p o) ∙ entries-of p (part_at p.bodies o)

@@ -1,5 +1,5 @@
 //! The fourth stage of a check: addresses and rooms.
-ghost use Rattle.std.specs.Prelude.{◌≡◌, ◌+◌, ◌/◌, ◌%◌, ◌<◌, ◌≤◌, ◌++◌, ◌==◌, ◌&&◌, nat_lt, not, min, is_none, length, drop, slice_get, Some, OnOk};
+ghost use Rattle.std.specs.Prelude.{◌≡◌, ◌+◌, ◌/◌, ◌%◌, ◌<◌, ◌≤◌, ◌++◌, ◌==◌, ◌&&◌, nat_lt, not, min, is_none, length, take, drop, slice_get, Some, OnOk};
 ghost use Rattle.std.specs.List.{position_or_len};
 ghost use Rattle.ds_base.specs.Geometry.{items_of};
 ghost use Rattle.ds_base.specs.declared.names.NodeKind.TheVariants as kinds;
@@ -21,13 +21,13 @@ ghost use Rattle.ds_check.specs.Objects.{
 
 use crate::controls::descriptor_count;
 use crate::findings::Find;
-use crate::listed::{addresses_in, body_at, first, pointer_blocks};
+use crate::listed::body_at;
 use crate::reports::Report;
 use crate::rooms::subs_at;
 use crate::uses::item_count;
 use ds_base::{Geom, Kind, NoMemory, NodeKind, ObjNo, Sector};
 use ds_fd::Body;
-use ds_image::PartsInMemory;
+use ds_image::{PartsInMemory, addresses_in, pointer_blocks};
 use ds_ptr::PtrBlock;
 
 /// The most addresses that a body has, those in its pointer blocks among them.
@@ -212,7 +212,7 @@ fn is_bad_block(geom: &Geom, block: Option<u32>) -> bool
 fn pointers(body: &Body) -> &[u32]
     ensures { result.now ≡ ptrs_by body.now (Some kinds.File) }
 {
-    first(&body.addresses, pointer_blocks(body.count))
+    first(&body.addresses, pointer_blocks(body.count) as usize)
 }
 
 /// The address of a file's block in its pointer block.
@@ -229,6 +229,14 @@ fn number_at(addresses: &[u32], index: usize) -> Option<u32>
         None => None,
         Some(address) => Some(*address),
     }
+}
+
+/// The first numbers of a list; all, where there are fewer.
+#[tactic(auto, using(std::proofs::lemmas::List::take_min))]
+fn first(numbers: &[u32], count: usize) -> &[u32]
+    ensures { result.now ≡ take count numbers.now }
+{
+    &numbers[..count.min(numbers.len())]
 }
 
 /// What is behind the first numbers of a list.

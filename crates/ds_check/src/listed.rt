@@ -1,14 +1,11 @@
 //! The items that the objects of an image list.
-ghost use Rattle.std.specs.Prelude.{◌≡◌, ◌≤◌, length, take, IfOk};
-ghost use Rattle.ds_tree.specs.Counts.{pointer_blocks};
-ghost use Rattle.ds_image.specs.Objects.{subs_of, addresses_in};
+ghost use Rattle.std.specs.Prelude.{◌≡◌, IfOk};
 ghost use Rattle.ds_image.specs.Parts.{part_at};
 ghost use Rattle.ds_check.specs.Objects.{listed_by};
 
-use ds_base::{Kind, NoMemory, NodeKind, ObjNo, Sector};
+use ds_base::{Kind, NoMemory, ObjNo, Sector};
 use ds_fd::Body;
-use ds_image::{PartsInMemory, blocks_of, ptrs_of};
-use ds_ptr::PtrBlock;
+use ds_image::{PartsInMemory, blocks_of, ptrs_of, subs_of};
 use std::alloc::Global;
 
 /// The body of an object; none of an object past the last.
@@ -42,46 +39,4 @@ fn copied(alloc: Global, items: &[u32]) -> Result<Vec<u32>, NoMemory>
     ensures { IfOk result (λ v. v.items ≡ items.now) }
 {
     items.to_vec(alloc).map_err(|_| NoMemory)
-}
-
-/// The first numbers of a list; all, where there are fewer.
-#[tactic(auto, using(std::proofs::lemmas::List::take_min))]
-pub(crate) fn first(numbers: &[u32], count: usize) -> &[u32]
-    ensures exact { result.now ≡ take count numbers.now }
-    ensures within { length result.now ≤ length numbers.now }
-{
-    &numbers[..count.min(numbers.len())]
-}
-
-/// The sub-blocks that a directory lists; none of anything else.
-pub(crate) fn subs_of(body: &Option<Body>) -> &[u32]
-    ensures exact { result.now ≡ subs_of body.now }
-    ensures few { length result.now ≤ 96 }
-{
-    let Some(body) = body else {
-        return &[];
-    };
-    match body.kind {
-        Some(NodeKind::Dir) => first(&body.addresses, body.count as usize),
-        _ => &[],
-    }
-}
-
-pub(crate) fn pointer_blocks(count: u32) -> usize
-    ensures { result ≡ pointer_blocks count }
-{
-    if count <= 96 {
-        return 0;
-    }
-    count.div_ceil(128) as usize
-}
-
-/// The addresses in a pointer block; one that is not spelled has none.
-pub(crate) fn addresses_in(block: &Option<PtrBlock>) -> &[u32]
-    ensures { result.now ≡ addresses_in block.now }
-{
-    match block {
-        Some(block) => &block.addresses,
-        None => &[],
-    }
 }

@@ -4,10 +4,10 @@ ghost use Rattle.ds_image.specs.Objects.{subs_of, rooms_in, rooms_of};
 ghost use Rattle.ds_image.specs.Parts.{part_at};
 ghost use Rattle.ds_check.specs.Objects.{rooms_at};
 
-use crate::listed::{body_at, subs_of};
+use crate::listed::body_at;
 use ds_base::{NoMemory, ObjNo, Sector};
 use ds_dir::{Entry, SubBlock};
-use ds_image::PartsInMemory;
+use ds_image::{PartsInMemory, subs_of};
 use std::alloc::Global;
 
 /// The rooms of an object, where it is a directory; at most 384.

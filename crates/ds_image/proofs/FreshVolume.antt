@@ -53,7 +53,7 @@ unfolding zeros
 fresh_body_ranges zero = record { links_are = refl; count_to = omega arith; birth_from = omega arith; birth_to = omega arith; rest_is_zero = refl }
 fresh_body_ranges (suc n) = record { links_are = refl; count_to = omega arith; birth_from = omega arith; birth_to = omega arith; rest_is_zero = refl }
 
-no_addresses : (n limit : ℕ) → 0 < limit → AllBelow limit (replicate n 0)
+pub no_addresses : (n limit : ℕ) → 0 < limit → AllBelow limit (replicate n 0)
 no_addresses n limit some i = let zero_there : slice_index (replicate n 0) i ≡ 0 = get_or-replicate_same n i 0 in omega arith
 
 fresh_body_widths : (o : ℕ) → o < 2 ^ 32 → HasWidths (fresh_body o)
@@ -81,7 +81,7 @@ unfolding ptr_bytes littles little padded zeros
 ptr_bytes-empty = refl
 
 -- the bytes at a number are determined
-same_bytes : (look : Look) (at : ℕ) (a b : List ℕ) → HasBytes look at a → HasBytes look at b → a ≡ b
+pub same_bytes : (look : Look) (at : ℕ) (a b : List ℕ) → HasBytes look at a → HasBytes look at b → a ≡ b
 same_bytes look at a b p q =
     let same : p.0 ≡ q.0 = let first : look at ≡ Some p.0 = p.1 in let second : look at ≡ Some q.0 = q.1 in cc in
     sym p.2 ∙ ap (λ (s : Sector). s.bytes) same ∙ q.2

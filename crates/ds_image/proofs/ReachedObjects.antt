@@ -14,7 +14,7 @@ use Rattle.ds_image.specs.Sound.{IsSound}
 use Rattle.ds_image.proofs.ListParents.{parents-in}
 use Rattle.ds_image.proofs.ReachedParents.{leads-iff_reached}
 
-used-within : (p : Parts) (o : ℕ) → is_used (part_at p.bodies o) ≡ true → o < length p.bodies
+pub used-within : (p : Parts) (o : ℕ) → is_used (part_at p.bodies o) ≡ true → o < length p.bodies
 used-within p o used = elim (cases_lt o (length p.bodies)) [
   | inl below ↦ below
   | inr past ↦ absurd (false≢true (ap is_used (sym (get_or_past p.bodies o None past)) ∙ used))

@@ -53,7 +53,7 @@ pub ptr_there : (g : Geom) (look : Look) (n : ℕ) → AreBlocks look → (r : O
 ptr_there g look n blocks =
     spelled_there look (place_sector g (places.PtrBlock n)) IsPtrBlock ptr_bytes blocks (λ bytes is. ptr_decoded bytes is.size is.below)
 
-few_clusters : (g : Geom) (kind : Kind) (cluster : ℕ) → IsGeom g → cluster < clusters_of g kind → cluster < 256
+pub few_clusters : (g : Geom) (kind : Kind) (cluster : ℕ) → IsGeom g → cluster < clusters_of g kind → cluster < 256
 few_clusters g Fd cluster is l = omega (arith, (bounds g is).fd_clusters)
 few_clusters g Sb cluster is l = omega (arith, (bounds g is).sb_clusters)
 few_clusters g Pb cluster is l = omega (arith, (bounds g is).pb_clusters)

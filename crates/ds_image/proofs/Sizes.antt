@@ -28,7 +28,7 @@ body_is g look p o b reads there =
     ((reads.bodies.each o (omega (arith, part_within p.bodies o b there, reads.bodies.len)) b).0 there).1
 
 -- a pointer block that is there has 128 addresses
-ptr_length : (g : Geom) (look : Look) (p : Parts) (n : ℕ) (r : Option PtrBlock) → Reads g look p → part_at p.ptrs n ≡ r → IsSome r → length (addresses_in r) ≡ 128
+pub ptr_length : (g : Geom) (look : Look) (p : Parts) (n : ℕ) (r : Option PtrBlock) → Reads g look p → part_at p.ptrs n ≡ r → IsSome r → length (addresses_in r) ≡ 128
 ptr_length g look p n None reads e some = absurd (false≢true some)
 ptr_length g look p n (Some b) reads e some =
     ((reads.ptrs.each n (omega (arith, part_within p.ptrs n b e, reads.ptrs.len)) b).0 e).0.count

@@ -43,7 +43,7 @@ entries-by p b None = refl
 entries-by p b (Some kinds.Dir) = refl
 entries-by p b (Some kinds.File) = refl
 
-entries-of : (p : Parts) (body : Option Body) → trees.entries_of (object_of p body).node ≡ entries_of p (subs_of body)
+pub entries-of : (p : Parts) (body : Option Body) → trees.entries_of (object_of p body).node ≡ entries_of p (subs_of body)
 entries-of p None = refl
 entries-of p (Some b) = entries-by p b b.kind
 

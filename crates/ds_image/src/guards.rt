@@ -3,9 +3,7 @@ ghost use Rattle.std.specs.Prelude.{◌≡◌, ◌==◌, ◌/◌, ◌<◌, ◌�
 ghost use Rattle.std.specs.List.{list_any};
 ghost use Rattle.ds_base.specs.Decoding.{IsDecoded};
 ghost use Rattle.ds_base.specs.Geometry.{IsGeom, items_of, per_cluster};
-ghost use Rattle.ds_fd.specs.Body.{IsBody};
 ghost use Rattle.ds_layout.specs.Places.{cluster_lock, IsPlace};
-ghost use Rattle.ds_tree.specs.Counts.{pointer_blocks};
 ghost use Rattle.ds_image.specs.Guards.{lister_or, guard_of, IsGuard};
 ghost use Rattle.ds_image.specs.Listers.{listed_of, listed_lists};
 ghost use Rattle.ds_image.specs.Metadata.{IsMetadata};
@@ -13,6 +11,7 @@ ghost use Rattle.ds_image.specs.Parts.{Parts, part_at};
 ghost use Rattle.ds_image.specs.Readings.{SpellsBody, Reads};
 
 use crate::images::Image;
+use crate::listings::{ptrs_of, subs_of};
 use crate::stores::Store;
 use ds_base::{Geom, Kind, NodeKind, ObjNo, SectorNo};
 use ds_fd::Body;
@@ -92,10 +91,8 @@ fn lists<S: Store>(image: &Image<S>, kind: NodeKind, object: ObjNo, n: u32) -> b
     ensures { (p : Parts) → Reads image.now.geom (slice_get image.now.sectors) p
         → result ≡ list_any (λ x. x == n) (listed_of kind (part_at p.bodies object)) }
 {
-    match body_at(image, object) {
-        Some(body) => listed(&body, kind).contains(&n),
-        None => false,
-    }
+    let body = body_at(image, object);
+    listed(&body, kind).contains(&n)
 }
 
 /// The body that a descriptor's sector spells.
@@ -108,29 +105,11 @@ fn body_at<S: Store>(image: &Image<S>, object: ObjNo) -> Option<Body>
 }
 
 /// The items that a body of the kind lists; any other lists none.
-fn listed(body: &Body, kind: NodeKind) -> &[u32]
-    requires { IsBody body.now }
-    ensures { result.now ≡ listed_of kind (Some body.now) }
+fn listed(body: &Option<Body>, kind: NodeKind) -> &[u32]
+    ensures { result.now ≡ listed_of kind body.now }
 {
-    if body.kind != Some(kind) {
-        return &[];
-    }
-    let count = match kind {
-        NodeKind::Dir => body.count,
-        NodeKind::File => pointer_blocks(body.count),
-    };
-    &body.addresses[..count as usize]
-}
-
-/// The pointer blocks of a file of so many blocks.
-fn pointer_blocks(blocks: u32) -> u32
-    requires { blocks ≤ 12288 }
-    ensures exact { result ≡ pointer_blocks blocks }
-    ensures most { result ≤ 96 }
-{
-    if blocks <= 96 {
-        0
-    } else {
-        blocks.div_ceil(128)
+    match kind {
+        NodeKind::Dir => subs_of(body),
+        NodeKind::File => ptrs_of(body),
     }
 }

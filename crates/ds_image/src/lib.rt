@@ -34,7 +34,7 @@ pub use asks::Ask;
 pub use formatting::format;
 pub use guards::guard;
 pub use images::{Image, ImageFault};
-pub use listings::{blocks_of, pointed_by, ptrs_of, subs_of};
+pub use listings::{addresses_in, blocks_of, pointer_blocks, ptrs_of, subs_of};
 pub use logical::overlay;
 pub use marks::Marks;
 pub use name_counts::NameCounts;

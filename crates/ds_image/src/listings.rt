@@ -1,5 +1,5 @@
 //! What the descriptors of an image list.
-ghost use Rattle.std.specs.Prelude.{◌≡◌, ◌++◌, take, map, IfOk, OnOk};
+ghost use Rattle.std.specs.Prelude.{◌≡◌, ◌≤◌, ◌++◌, length, take, map, IfOk, OnOk};
 ghost use Rattle.std.specs.List.{flat_map, filter_map};
 ghost use Rattle.ds_tree.specs.Counts.{pointer_blocks};
 ghost use Rattle.ds_image.specs.Objects.{subs_of, ptrs_of, blocks_of, addresses_in, rooms_in, used_rooms};
@@ -49,15 +49,17 @@ fn copied(alloc: Global, items: &[u32]) -> Result<Vec<u32>, NoMemory>
 
 /// The first numbers of a list; all, where there are fewer.
 #[tactic(auto, using(std::proofs::lemmas::List::take_min))]
-fn first(numbers: &[u32], count: usize) -> &[u32]
-    ensures { result.now ≡ take count numbers.now }
+pub(crate) fn first(numbers: &[u32], count: usize) -> &[u32]
+    ensures exact { result.now ≡ take count numbers.now }
+    ensures within { length result.now ≤ length numbers.now }
 {
     &numbers[..count.min(numbers.len())]
 }
 
 /// The sub-blocks that a directory lists; none of anything else.
 pub fn subs_of(body: &Option<Body>) -> &[u32]
-    ensures { result.now ≡ subs_of body.now }
+    ensures exact { result.now ≡ subs_of body.now }
+    ensures few { length result.now ≤ 96 }
 {
     let Some(body) = body else {
         return &[];
@@ -76,22 +78,23 @@ pub fn ptrs_of(body: &Option<Body>) -> &[u32]
         return &[];
     };
     match body.kind {
-        Some(NodeKind::File) => first(&body.addresses, pointer_blocks(body.count)),
+        Some(NodeKind::File) => first(&body.addresses, pointer_blocks(body.count) as usize),
         _ => &[],
     }
 }
 
-fn pointer_blocks(count: u32) -> usize
+/// How many pointer blocks a file of so many blocks has.
+pub fn pointer_blocks(count: u32) -> u32
     ensures { result ≡ pointer_blocks count }
 {
     if count <= 96 {
         return 0;
     }
-    count.div_ceil(128) as usize
+    count.div_ceil(128)
 }
 
 /// The addresses in pointer blocks, one block after another.
-pub fn pointed_by<S: Store>(
+pub(crate) fn pointed_by<S: Store>(
     alloc: Global,
     parts: &PartsInMemory<S>,
     ptrs: &[u32],
@@ -108,7 +111,8 @@ pub fn pointed_by<S: Store>(
     Ok(addresses)
 }
 
-fn addresses_in(block: &Option<PtrBlock>) -> &[u32]
+/// The addresses in a pointer block; one that is not spelled has none.
+pub fn addresses_in(block: &Option<PtrBlock>) -> &[u32]
     ensures { result.now ≡ addresses_in block.now }
 {
     match block {

@@ -22,6 +22,6 @@ pub use names::{copy_of, name_of};
 pub use pairs::{
     block_alone, block_emptied, block_filled, body_grown, body_pair, map_pair, sub_pair,
 };
-pub use pointers::{pointer_block, pointer_blocks};
+pub use pointers::pointer_block;
 pub use rooms::{FreeRoom, room_for};
 pub use stops::{Ending, Stop};

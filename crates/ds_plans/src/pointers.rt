@@ -7,7 +7,6 @@ ghost use Rattle.ds_image.specs.Readings.{Reads};
 ghost use Rattle.ds_image.specs.SeenValues.{look_of};
 ghost use Rattle.ds_plans.specs.Pointers.{pointer_seen};
 ghost use Rattle.ds_ptr.specs.PtrBlock.{IsPtrBlock};
-ghost use Rattle.ds_tree.specs.Counts.{pointer_blocks};
 
 use crate::stops::Stop;
 use ds_base::Geom;
@@ -41,14 +40,4 @@ fn all_pointer_blocks(geom: &Geom) -> u32
     ensures { result ≡ items_of geom.now Pb }
 {
     u32::from(geom.clusters[2]) * u32::from(geom.items[2])
-}
-
-/// How many pointer blocks a file of so many blocks has.
-pub fn pointer_blocks(count: u32) -> u32
-    ensures { result ≡ pointer_blocks count }
-{
-    if count <= 96 {
-        return 0;
-    }
-    count.div_ceil(128)
 }

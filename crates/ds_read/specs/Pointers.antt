@@ -24,16 +24,10 @@ use Rattle.ds_image.specs.Readings.{Reads}
 use Rattle.ds_image.specs.Sound.{IsSound, ptr_lists}
 use Rattle.ds_image.proofs.Guarding.{lister_found}
 use Rattle.ds_image.proofs.Listed.{ptr_listed_within, block_listed_within}
-use Rattle.ds_image.proofs.Sizes.{part_within, body_is, many_pointers, file_size}
+use Rattle.ds_image.proofs.Sizes.{part_within, body_is, many_pointers, file_size, ptr_length}
 use Rattle.ds_image.proofs.SoundParts.{list-is}
 use Rattle.ds_read.specs.Pages.{pointer_of}
 use Rattle.ds_read.specs.PageLists.{page-cut_off}
-
--- a pointer block that is spelled has 128 addresses
-full-by : (g : Geom) (look : Look) (p : Parts) (n : ℕ) (r : Option PtrBlock) → Reads g look p → part_at p.ptrs n ≡ r → IsSome r → length (addresses_in r) ≡ 128
-full-by g look p n None reads e some = absurd (false≢true some)
-full-by g look p n (Some b) reads e some =
-    ((reads.ptrs.each n (omega (arith, part_within p.ptrs n b e, reads.ptrs.len)) b).0 e).0.count
 
 -- what finds a number in a list finds its place
 found-at : (xs : List ℕ) (n : ℕ) → list_any (λ x. x == n) xs ≡ true → (i : ℕ) × (slice_get xs i ≡ Some n)
@@ -106,7 +100,7 @@ module _ (g : Geom) (look : Look) (p : Parts) (o : ℕ) (b : Body) (reads : Read
       let f : ℕ → List ℕ = λ n. addresses_in (part_at p.ptrs n) in
       let ns : List ℕ = take (pointer_blocks b.count) b.addresses in
       let each : (i n : ℕ) → slice_get ns i ≡ Some n → length (f n) ≡ 128 = λ i n at.
-      full-by g look p n (part_at p.ptrs n) reads refl
+      ptr_length g look p n (part_at p.ptrs n) reads refl
       (sound.ptrs o i n (ap (λ xs. slice_get xs i) (list-is ptrs_of p.bodies refl o ∙ (let listed : ptrs_of (part_at p.bodies o) ≡ ns = rw (there, kind) refl in listed)) ∙ at)) in
       let chosen : Bool → List ℕ = λ test. take 128 (drop (128 * page) (take b.count (if test then b.addresses else flat_map f ns))) in
       ap chosen large ∙ page-cut_off f ns page 0 b.count (omega (arith, l, pointers-length)) each

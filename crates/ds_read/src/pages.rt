@@ -1,7 +1,6 @@
 //! Pages of a file's map.
 ghost use Rattle.std.specs.Prelude.{◌≡◌, ◌≤◌, ◌<◌, ◌-◌, ◌*◌, min, length};
 ghost use Rattle.ds_read.specs.Pages.{body_page};
-ghost use Rattle.ds_tree.specs.Counts.{pointer_blocks};
 
 use arrayvec::ArrayVec;
 use ds_base::SectorNo;
@@ -36,14 +35,4 @@ pub(crate) fn listed(numbers: &[u32]) -> ArrayVec<u32, 128>
     let mut list = ArrayVec::new();
     let _ = list.try_extend_from_slice(numbers);
     list
-}
-
-/// The pointer blocks of a file of so many blocks.
-pub(crate) fn pointer_blocks(count: u32) -> u32
-    ensures { result ≡ pointer_blocks count }
-{
-    if count <= 96 {
-        return 0;
-    }
-    count.div_ceil(128)
 }

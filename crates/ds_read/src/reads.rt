@@ -15,12 +15,12 @@ ghost use Rattle.ds_read.specs.Pages.{page_of, pointed_by};
 ghost use Rattle.ds_read.specs.Questions.{is_reading, call_of};
 
 use crate::found::{Found, spelled};
-use crate::pages::{Page, body_page, listed, pointer_blocks};
+use crate::pages::{Page, body_page, listed};
 use crate::questions::Question;
 use arrayvec::ArrayVec;
 use ds_base::{Geom, Key, Kind, SlotNo};
 use ds_fd::Body;
-use ds_image::{Ask, Plan, Seen};
+use ds_image::{Ask, Plan, Seen, pointer_blocks};
 use ds_layout::{Place, sector_of};
 use ds_ptr::PtrBlock;
 use ds_tree::{Call, TreeReply};

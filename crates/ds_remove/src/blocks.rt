@@ -11,8 +11,8 @@ ghost use Rattle.ds_remove.specs.Blocks.{blocks_known, pointed_in};
 use arrayvec::ArrayVec;
 use ds_base::{Geom, NodeKind};
 use ds_fd::Body;
-use ds_image::Seen;
-use ds_plans::{Stop, pointer_block, pointer_blocks};
+use ds_image::{Seen, pointer_blocks};
+use ds_plans::{Stop, pointer_block};
 
 /// The blocks of a file, each once read; otherwise what a planner asks for before it knows them.
 pub fn blocks_known(geom: &Geom, seen: &Seen, file: &Body) -> Result<ArrayVec<u32, 12288>, Stop>

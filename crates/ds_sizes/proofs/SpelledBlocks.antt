@@ -13,16 +13,10 @@ use Rattle.ds_image.specs.Objects.{addresses_in, pointed_by, tail_by}
 use Rattle.ds_image.specs.Parts.{Parts, part_at}
 use Rattle.ds_image.specs.Readings.{Reads}
 use Rattle.ds_image.specs.Sound.{IsSound, AreZero}
-use Rattle.ds_image.proofs.Sizes.{part_within, body_is, file_size}
+use Rattle.ds_image.proofs.Sizes.{part_within, body_is, file_size, ptr_length}
 use Rattle.ds_sizes.specs.Pages.{ptrs_in, blocks_in, IsPage, SpellsBlocks}
 use Rattle.ds_sizes.proofs.FileLists.{ptr_list-is, tail-of_file}
 use Rattle.ds_sizes.proofs.Paged.{page-of, ptrs-length, some-pointers}
-
--- a pointer block that is spelled has 128 addresses
-full-by : (g : Geom) (look : Look) (p : Parts) (n : ℕ) (r : Option PtrBlock) → Reads g look p → part_at p.ptrs n ≡ r → IsSome r → length (addresses_in r) ≡ 128
-full-by g look p n None reads e some = absurd (false≢true some)
-full-by g look p n (Some b) reads e some =
-    ((reads.ptrs.each n (omega (arith, part_within p.ptrs n b e, reads.ptrs.len)) b).0 e).0.count
 
 module _ (g : Geom) (look : Look) (p : Parts) (o : ℕ) (b : Body) (reads : Reads g look p) (sound : IsSound p) (there : part_at p.bodies o ≡ Some b)
     (file : b.kind ≡ Some kinds.File) where
@@ -36,7 +30,7 @@ module _ (g : Geom) (look : Look) (p : Parts) (o : ℕ) (b : Body) (reads : Read
   size-is = file_size g look p o b reads sound there file
 
   wide : (k n : ℕ) → slice_get (ptrs_in b) k ≡ Some n → length (pointed n) ≡ 128
-  wide k n at = full-by g look p n (part_at p.ptrs n) reads refl (sound.ptrs o k n (ap (λ l. slice_get l k) (ptr_list-is p o b there file) ∙ at))
+  wide k n at = ptr_length g look p n (part_at p.ptrs n) reads refl (sound.ptrs o k n (ap (λ l. slice_get l k) (ptr_list-is p o b there file) ∙ at))
 
   tail-zero : AreZero (tail_by p b (Some kinds.File))
   tail-zero = subst AreZero (tail-of_file p o b there file) (sound.tails o)

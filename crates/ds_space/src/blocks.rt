@@ -10,8 +10,8 @@ ghost use Rattle.ds_space.specs.Blocks.{AreItems, addresses_seen, blocks_seen, p
 use arrayvec::ArrayVec;
 use ds_base::Geom;
 use ds_fd::Body;
-use ds_image::Seen;
-use ds_plans::{Stop, pointer_block, pointer_blocks};
+use ds_image::{Seen, pointer_blocks};
+use ds_plans::{Stop, pointer_block};
 
 /// Blocks of a file, in its order.
 #[derive(Drop)]

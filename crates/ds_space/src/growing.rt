@@ -17,9 +17,9 @@ use crate::taking::{Taken, items_wanted};
 use arrayvec::ArrayVec;
 use ds_base::{Geom, Kind, SlotNo};
 use ds_fd::Body;
-use ds_image::Seen;
+use ds_image::{Seen, pointer_blocks};
 use ds_jrnl::Redo;
-use ds_plans::{Stop, pointer_blocks};
+use ds_plans::Stop;
 
 /// A file that grows, with its new size; otherwise what a planner asks for, or answers, before it knows that.
 pub fn growth_known(

@@ -26,10 +26,10 @@ returns _ c =
     let pointed : c.deref.result.now ≡ flat_map (λ n. addresses_in (part_at p.ptrs n)) (ptrs_of body) =
     c.deref.ensures.value ∙ c.in_ok-pointed.ensures ∙ ap (flat_map (λ n. addresses_in (part_at p.ptrs n))) c.ptrs_of-ptrs.ensures in
     let tail : drop (count_in body) c.deref.result.now ≡ tail_of p body = ap (drop (count_in body)) pointed ∙ sym (tail-is p body) in
-    let entries : c.in_ok-entries.entries.items ≡ used_rooms p (subs_of body) = c.in_ok-entries.ensures ∙ ap (used_rooms p) c.subs_of-subs.ensures in
+    let entries : c.in_ok-entries.entries.items ≡ used_rooms p (subs_of body) = c.in_ok-entries.ensures ∙ ap (used_rooms p) c.subs_of-subs.ensures.exact in
     IfOk-weaker c.are_names_apart.result (λ yes. IsTrue yes ↔ AreNamesApart c.deref-3.result.now) (λ yes. IsTrue yes ↔ IsSoundObject p body) (λ yes exact. (
       λ y. record {
-        subs = subst (All (λ n. IsSome (part_at p.subs n))) c.subs_of-subs.ensures
+        subs = subst (All (λ n. IsSome (part_at p.subs n))) c.subs_of-subs.ensures.exact
             (c.are_subs_spelled.ensures.0 c.if-not-are_subs_spelled.false);
         ptrs = subst (All (λ n. IsSome (part_at p.ptrs n))) c.ptrs_of-ptrs.ensures
             (c.are_ptrs_spelled.ensures.0 c.if-not-are_ptrs_spelled.false);
