@@ -11,7 +11,7 @@ use Rattle.ds_dir.specs.declared.sub_block.Entry.{Entry}
 use Rattle.ds_dir.specs.declared.sub_block.SubBlock.{SubBlock}
 use Rattle.ds_fd.specs.declared.body.Body.{Body}
 use Rattle.ds_image.specs.Objects.{rooms_in, used_rooms}
-use Rattle.ds_image.specs.Parts.{Parts, part_at}
+use Rattle.ds_image.specs.Parts.{Parts}
 use Rattle.ds_image.specs.SeenValues.{SeenValue}
 use Rattle.ds_image.proofs.ListedItems.{used_rooms-more}
 use Rattle.ds_names.specs.Answers.{page_known}
@@ -21,7 +21,6 @@ use Rattle.ds_plans.specs.Entries.{subs_known}
 use Rattle.ds_plans.specs.Steps.{after}
 use Rattle.ds_plans.proofs.Finding.{sub-there}
 use Rattle.ds_plans.specs.declared.stops.Stop.{Stop}
-use Rattle.ds_tree.specs.declared.calls.TreeReply.{TreeReply}
 use Rattle.ds_tree.specs.declared.calls.TreeReply.TheVariants as replies
 
 no-items : {X : Type 0} (xs : List X) → length xs ≡ 0 → [] ≡ xs

@@ -1,6 +1,6 @@
 -- A page that is made entry by entry.
-use Rattle.std.proofs.Common.{◌≡◌, ℕ, ◌+◌, ◌<◌, ◌≤◌, Bool, true, false, cond, List, [], ◌∷◌, ◌++◌, length, take, drop, map, Option, None, Some, refl, sym, ap, ◌∙◌, arith, length-append, length-take, ◌-◌, ◌≢◌}
-use Rattle.std.specs.List.{filter, insert}
+use Rattle.std.proofs.Common.{◌≡◌, ℕ, ◌+◌, ◌<◌, ◌≤◌, Bool, true, false, cond, List, [], ◌∷◌, ◌++◌, length, take, drop, map, Option, None, Some, sym, ap, ◌∙◌, arith, length-take, ◌-◌, ◌≢◌}
+use Rattle.std.specs.List.{insert}
 use Rattle.std.specs.FinMap as maps
 use Rattle.std.proofs.lemmas.List.{map-append, append-nil, take_all, take-append-drop}
 use Rattle.std.proofs.lemmas.List.Edits.{length-insert, insert-append_left}

@@ -1,23 +1,20 @@
 -- A List asks for what it may, and answers what the tree says.
-use Rattle.std.proofs.Common.{◌≡◌, ℕ, zero, suc, ◌+◌, ◌*◌, ◌&&◌, Bool, true, false, cond, if◌then◌else◌, List, [], ◌∷◌, length, take, map, Option, None, Some, refl, sym, ap, subst, ◌∙◌, arith, slice_get}
+use Rattle.std.proofs.Common.{◌≡◌, ℕ, suc, ◌+◌, ◌*◌, ◌&&◌, Bool, true, false, cond, List, [], ◌∷◌, length, take, map, Option, None, Some, refl, sym, ap, subst, ◌∙◌, arith, slice_get}
 use Rattle.std.specs.Prelude.{T, option_map, is_some, bytes_eq}
-use Rattle.std.specs.List.{filter, take-map}
-use Rattle.std.specs.Cmp.Lexicographic.{slice_cmp, nat_list_cmp_total}
+use Rattle.std.specs.List.{take-map}
+use Rattle.std.specs.Cmp.Lexicographic.{nat_list_cmp_total}
 use Rattle.std.specs.FinMap as maps
-use Rattle.std.specs.Ordering.{nat_cmp, is_eq, is_lt, eq_by_cmp}
-use Rattle.std.proofs.lemmas.Cmp.{nat_eq_equiv}
+use Rattle.std.specs.Ordering.{is_lt, eq_by_cmp}
 use Rattle.std.proofs.lemmas.Map.Keys.{IsDistinct-tail}
 use Rattle.std.specs.FinMap.Entries.{find, is_sorted, below_all, where_key, find-where_key, is_sorted-where_key, same_entries}
-use Rattle.std.specs.declared.cmp.Ordering.{Ordering}
-use Rattle.std.specs.declared.cmp.Ordering.TheVariants.{Less, Equal, Greater}
+use Rattle.std.specs.declared.cmp.Ordering.TheVariants.{Equal}
 use Rattle.ds_base.specs.declared.geometry.Geom.{Geom}
 use Rattle.ds_base.specs.declared.names.Key.{Key}
 use Rattle.ds_base.specs.declared.names.NodeKind.TheVariants as kinds
 use Rattle.ds_base.specs.declared.sectors.Sector.{Sector}
 use Rattle.ds_dir.specs.declared.sub_block.Entry.{Entry}
 use Rattle.ds_fd.specs.declared.body.Body.{Body}
-use Rattle.ds_image.specs.Asking.{Agrees}
-use Rattle.ds_image.specs.Objects.{subs_by, subs_of, used_rooms, entries_of, node_by}
+use Rattle.ds_image.specs.Objects.{subs_by, subs_of, used_rooms, entries_of}
 use Rattle.ds_image.specs.Parts.{Parts, part_at}
 use Rattle.ds_image.specs.Readings.{Reads}
 use Rattle.ds_image.specs.SeenValues.{SeenValue, look_of}
@@ -33,12 +30,11 @@ use Rattle.ds_plans.specs.Bodies.{dir_of_key}
 use Rattle.ds_plans.specs.DirAsks.{DirAsks}
 use Rattle.ds_plans.specs.DirSeen.{HasDir, AreAllIn}
 use Rattle.ds_plans.specs.Entries.{subs_known}
-use Rattle.ds_plans.specs.Goes.{Goes}
 use Rattle.ds_plans.specs.Steps.{after, settled}
 use Rattle.ds_plans.proofs.Dirs.{dir_goes, dir_in, object_in}
 use Rattle.ds_plans.proofs.Finding.{whole_goes}
 use Rattle.ds_plans.proofs.Going.{goes-after, goes-settled}
-use Rattle.ds_tree.specs.Nodes.{Entries, Node, Dir, File, Object, FileTree, object_at, birth_at, node_at, node_of_key}
+use Rattle.ds_tree.specs.Nodes.{Entries, Dir, File, Object, FileTree, object_at, birth_at, node_of_key}
 use Rattle.ds_tree.specs.Steps.{Does, Lists, is_above, entries_above}
 use Rattle.ds_tree.specs.declared.calls.CallOf.TheVariants as calls
 use Rattle.ds_tree.specs.declared.calls.TreeReply.{TreeReply}

@@ -1,6 +1,6 @@
 -- A Lookup asks for what it may, and answers what the tree says.
-use Rattle.std.proofs.Common.{◌≡◌, ℕ, ◌*◌, ◌==◌, Bool, true, false, not, if◌then◌else◌, List, [], Option, None, Some, refl, sym, ap, subst, ◌∙◌, slice_get, is_some, is_none}
-use Rattle.std.specs.Prelude.{Result, Ok, option_map, MatchOption}
+use Rattle.std.proofs.Common.{◌≡◌, ℕ, ◌*◌, ◌==◌, if◌then◌else◌, List, Option, None, Some, refl, sym, ap, subst, ◌∙◌, slice_get}
+use Rattle.std.specs.Prelude.{option_map}
 use Rattle.std.specs.FinMap as maps
 use Rattle.std.proofs.lemmas.Cmp.{nat_eq_equiv}
 use Rattle.std.proofs.lemmas.Option.{same_Some}
@@ -11,7 +11,7 @@ use Rattle.ds_base.specs.declared.names.NodeKind.TheVariants as kinds
 use Rattle.ds_base.specs.declared.sectors.Sector.{Sector}
 use Rattle.ds_dir.specs.declared.sub_block.Entry.{Entry}
 use Rattle.ds_fd.specs.declared.body.Body.{Body}
-use Rattle.ds_image.specs.Asking.{Agrees, HasItsBlock}
+use Rattle.ds_image.specs.Asking.{HasItsBlock}
 use Rattle.ds_image.specs.Objects.{subs_by, subs_of, used_rooms, entries_of, node_by}
 use Rattle.ds_image.specs.Parts.{Parts, part_at}
 use Rattle.ds_image.specs.Readings.{Reads}
@@ -22,18 +22,16 @@ use Rattle.ds_image.specs.declared.asks.Ask.TheVariants as asks
 use Rattle.ds_image.proofs.EntryNames.{get-entries}
 use Rattle.ds_names.specs.Answers.{lookup_reply, lookup_known}
 use Rattle.ds_plans.specs.Bodies.{dir_of_key}
-use Rattle.ds_plans.specs.DirAsks.{DirAsks, IsKnown}
+use Rattle.ds_plans.specs.DirAsks.{DirAsks}
 use Rattle.ds_plans.specs.DirSeen.{HasDir, said_found, said_entry, IsFoundIn}
 use Rattle.ds_plans.specs.Entries.{entry_named, found_in}
-use Rattle.ds_plans.specs.Goes.{Goes}
-use Rattle.ds_plans.specs.Steps.{after, settled}
+use Rattle.ds_plans.specs.Steps.{settled}
 use Rattle.ds_plans.specs.declared.entries.Found.{Found}
 use Rattle.ds_plans.proofs.Dirs.{dir_goes, dir_in, object_in}
 use Rattle.ds_plans.proofs.Finding.{find_goes, named-at, named-find}
 use Rattle.ds_plans.proofs.Going.{goes-after, goes-settled}
-use Rattle.ds_tree.specs.Nodes.{Entries, Node, Dir, File, Object, FileTree, node_at, object_at, birth_at, node_of_key, kind_of}
-use Rattle.ds_tree.specs.Steps.{Does, Finds, refuse, refuses_missing, in_dir}
-use Rattle.ds_tree.specs.declared.calls.CallOf.{CallOf}
+use Rattle.ds_tree.specs.Nodes.{Entries, Node, Dir, File, Object, FileTree, object_at, node_of_key, kind_of}
+use Rattle.ds_tree.specs.Steps.{Does, Finds}
 use Rattle.ds_tree.specs.declared.calls.CallOf.TheVariants as calls
 use Rattle.ds_tree.specs.declared.calls.TreeReply.{TreeReply}
 use Rattle.ds_tree.specs.declared.calls.TreeReply.TheVariants as replies

@@ -1,7 +1,7 @@
 -- The pointer blocks and blocks of a file in parts that agree with one another.
-use Rattle.std.proofs.Common.{◌≡◌, ℕ, ◌+◌, ◌-◌, ◌*◌, ◌/◌, ◌<◌, ◌≤◌, ◌==◌, Bool, true, false, nat_le, List, length, take, drop, get_or, Option, Some, None, IsSome, inl, inr, refl, ap, subst, ◌∙◌, length-take-le, arith}
+use Rattle.std.proofs.Common.{◌≡◌, ℕ, ◌+◌, ◌-◌, ◌*◌, ◌/◌, ◌<◌, ◌≤◌, ◌==◌, Bool, true, false, nat_le, List, length, take, drop, get_or, Some, inl, inr, refl, ap, subst, ◌∙◌, length-take-le, arith}
 use Rattle.std.specs.Prelude.{slice_get, if◌then◌else◌}
-use Rattle.std.proofs.lemmas.Bool.{cases_Bool, false≢true, leb-true, leb-false}
+use Rattle.std.proofs.lemmas.Bool.{cases_Bool, leb-true, leb-false}
 use Rattle.std.proofs.lemmas.Bool.Decides.{nat_tests}
 use Rattle.std.proofs.lemmas.List.{get_or-take}
 use Rattle.std.proofs.lemmas.List.Folds.{Any-from_list_any, list_any_at}
@@ -13,7 +13,6 @@ use Rattle.ds_base.specs.declared.geometry.Kind.TheVariants.{Fd, Pb, Fb}
 use Rattle.ds_base.specs.declared.names.NodeKind.TheVariants as kinds
 use Rattle.ds_fd.specs.Body.{most_count}
 use Rattle.ds_fd.specs.declared.body.Body.{Body}
-use Rattle.ds_ptr.specs.declared.ptr_block.PtrBlock.{PtrBlock}
 use Rattle.ds_tree.specs.Counts.{pointer_blocks}
 use Rattle.ds_image.specs.Guards.{lister_or}
 use Rattle.ds_image.specs.Looks.{Look}
@@ -24,7 +23,7 @@ use Rattle.ds_image.specs.Readings.{Reads}
 use Rattle.ds_image.specs.Sound.{IsSound, ptr_lists}
 use Rattle.ds_image.proofs.Guarding.{lister_found}
 use Rattle.ds_image.proofs.Listed.{ptr_listed_within, block_listed_within}
-use Rattle.ds_image.proofs.Sizes.{part_within, body_is, many_pointers, file_size, ptr_length}
+use Rattle.ds_image.proofs.Sizes.{body_is, many_pointers, file_size, ptr_length}
 use Rattle.ds_image.proofs.SoundParts.{list-is}
 use Rattle.ds_read.specs.Pages.{pointer_of}
 use Rattle.ds_read.specs.PageLists.{page-cut_off}

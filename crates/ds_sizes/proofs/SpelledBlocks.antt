@@ -1,19 +1,17 @@
 -- In parts that agree with one another the pointer blocks of a file have the pages of its blocks.
-use Rattle.std.proofs.Common.{◌≡◌, ℕ, suc, ◌+◌, ◌*◌, ◌≤◌, Bool, true, false, nat_le, if◌then◌else◌, List, ◌++◌, length, take, drop, slice_get, Option, Some, None, IsSome, refl, sym, ap, subst, ◌∙◌, arith}
+use Rattle.std.proofs.Common.{◌≡◌, ℕ, suc, ◌+◌, ◌*◌, ◌≤◌, Bool, true, false, nat_le, if◌then◌else◌, List, ◌++◌, length, take, drop, slice_get, Some, refl, sym, ap, subst, ◌∙◌, arith}
 use Rattle.std.specs.List.{flat_map}
-use Rattle.std.proofs.lemmas.Bool.{false≢true}
 use Rattle.std.proofs.lemmas.Bool.Decides.{nat_tests}
 use Rattle.std.proofs.lemmas.List.{get_or-take, get_or_append_left, length-take}
 use Rattle.ds_base.specs.declared.geometry.Geom.{Geom}
 use Rattle.ds_base.specs.declared.names.NodeKind.TheVariants as kinds
 use Rattle.ds_fd.specs.declared.body.Body.{Body}
-use Rattle.ds_ptr.specs.declared.ptr_block.PtrBlock.{PtrBlock}
 use Rattle.ds_image.specs.Looks.{Look}
 use Rattle.ds_image.specs.Objects.{addresses_in, pointed_by, tail_by}
 use Rattle.ds_image.specs.Parts.{Parts, part_at}
 use Rattle.ds_image.specs.Readings.{Reads}
 use Rattle.ds_image.specs.Sound.{IsSound, AreZero}
-use Rattle.ds_image.proofs.Sizes.{part_within, body_is, file_size, ptr_length}
+use Rattle.ds_image.proofs.Sizes.{body_is, file_size, ptr_length}
 use Rattle.ds_sizes.specs.Pages.{ptrs_in, blocks_in, IsPage, SpellsBlocks}
 use Rattle.ds_sizes.proofs.FileLists.{ptr_list-is, tail-of_file}
 use Rattle.ds_sizes.proofs.Paged.{page-of, ptrs-length, some-pointers}

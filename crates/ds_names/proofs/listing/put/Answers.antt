@@ -1,5 +1,5 @@
 -- The name is put at its place, and the first 32 names stay.
-use Rattle.std.proofs.Common.{◌≡◌, length, nat_eq, sym, ap, ◌∙◌, arith}
+use Rattle.std.proofs.Common.{◌≡◌, length, sym, ap, ◌∙◌, arith}
 use Rattle.std.proofs.lemmas.Bool.Decides.{nat_tests}
 use Rattle.ds_names.specs.Pages.{place_in}
 use Rattle.ds_names.proofs.PagesMade.{put_none, put_end, put_popped, put_into_room}
