@@ -16,11 +16,11 @@ use Rattle.ds_image.specs.SeenValues.{SeenValue}
 use Rattle.ds_image.proofs.ListedItems.{used_rooms-more}
 use Rattle.ds_names.specs.Answers.{page_known}
 use Rattle.ds_names.specs.Pages.{name_cmp, page_names, page_of}
-use Rattle.ds_plans.specs.Bodies.{sub_seen}
-use Rattle.ds_plans.specs.Entries.{subs_known}
-use Rattle.ds_plans.specs.Steps.{after}
-use Rattle.ds_plans.proofs.Finding.{sub-there}
-use Rattle.ds_plans.specs.declared.stops.Stop.{Stop}
+use Rattle.ds_plan_base.specs.Bodies.{sub_seen}
+use Rattle.ds_plan_base.specs.Entries.{subs_known}
+use Rattle.ds_plan_base.specs.Steps.{after}
+use Rattle.ds_plan_base.proofs.Finding.{sub-there}
+use Rattle.ds_plan_base.specs.declared.stops.Stop.{Stop}
 use Rattle.ds_tree.specs.declared.calls.TreeReply.TheVariants as replies
 
 no-items : {X : Type 0} (xs : List X) → length xs ≡ 0 → [] ≡ xs

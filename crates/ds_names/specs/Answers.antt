@@ -10,11 +10,11 @@ use Rattle.ds_image.specs.SeenValues.{SeenValue}
 use Rattle.ds_names.specs.declared.reading.ReadCall.{ReadCall}
 use Rattle.ds_names.specs.declared.reading.ReadCall.TheVariants as kept
 use Rattle.ds_names.specs.Pages.{page_of}
-use Rattle.ds_plans.specs.Bodies.{dir_of_key}
-use Rattle.ds_plans.specs.Entries.{found_in, subs_known}
-use Rattle.ds_plans.specs.Steps.{after, settled}
-use Rattle.ds_plans.specs.declared.entries.Found.{Found}
-use Rattle.ds_plans.specs.declared.stops.Stop.{Stop}
+use Rattle.ds_plan_base.specs.Bodies.{dir_of_key}
+use Rattle.ds_plan_base.specs.Entries.{found_in, subs_known}
+use Rattle.ds_plan_base.specs.Steps.{after, settled}
+use Rattle.ds_plan_base.specs.declared.entries.Found.{Found}
+use Rattle.ds_plan_base.specs.declared.stops.Stop.{Stop}
 use Rattle.ds_tree.specs.declared.calls.CallOf.{CallOf}
 use Rattle.ds_tree.specs.declared.calls.CallOf.TheVariants as calls
 use Rattle.ds_tree.specs.declared.calls.TreeReply.{TreeReply}

@@ -3,12 +3,12 @@ use Rattle.std.specs.Prelude.{ℕ, ⊤}
 use Rattle.ds_base.specs.declared.geometry.Geom.{Geom}
 use Rattle.ds_base.specs.declared.names.Key.{Key}
 use Rattle.ds_image.specs.Planning.{Answers}
-use Rattle.ds_make.specs.Answers as making
+use Rattle.ds_plan_make.specs.Answers as making
 use Rattle.ds_names.specs.Answers as reading
 use Rattle.ds_names.specs.declared.names.Names.{Names}
 use Rattle.ds_names.specs.declared.names.Names.TheVariants.{Reads, Makes, Removes, Renames}
-use Rattle.ds_remove.specs.Answers as removing
-use Rattle.ds_rename.specs.Answers as renaming
+use Rattle.ds_plan_remove.specs.Answers as removing
+use Rattle.ds_plan_rename.specs.Answers as renaming
 use Rattle.ds_tree.specs.declared.calls.CallOf.{CallOf}
 use Rattle.ds_tree.specs.declared.calls.CallOf.TheVariants as calls
 

@@ -26,14 +26,14 @@ use Rattle.ds_image.proofs.EntryNames.{pairs, find-some, apart-index, get-entrie
 use Rattle.ds_names.specs.Answers.{list_known}
 use Rattle.ds_names.specs.Lookups.{dir_named}
 use Rattle.ds_names.specs.Pages.{name_cmp, name_key, entries_past, keys_by_name, page_names, page_of}
-use Rattle.ds_plans.specs.Bodies.{dir_of_key}
-use Rattle.ds_plans.specs.DirAsks.{DirAsks}
-use Rattle.ds_plans.specs.DirSeen.{HasDir, AreAllIn}
-use Rattle.ds_plans.specs.Entries.{subs_known}
-use Rattle.ds_plans.specs.Steps.{after, settled}
-use Rattle.ds_plans.proofs.Dirs.{dir_goes, dir_in, object_in}
-use Rattle.ds_plans.proofs.Finding.{whole_goes}
-use Rattle.ds_plans.proofs.Going.{goes-after, goes-settled}
+use Rattle.ds_plan_base.specs.Bodies.{dir_of_key}
+use Rattle.ds_plan_base.specs.DirAsks.{DirAsks}
+use Rattle.ds_plan_base.specs.DirSeen.{HasDir, AreAllIn}
+use Rattle.ds_plan_base.specs.Entries.{subs_known}
+use Rattle.ds_plan_base.specs.Steps.{after, settled}
+use Rattle.ds_plan_base.proofs.Dirs.{dir_goes, dir_in, object_in}
+use Rattle.ds_plan_base.proofs.Finding.{whole_goes}
+use Rattle.ds_plan_base.proofs.Going.{goes-after, goes-settled}
 use Rattle.ds_tree.specs.Nodes.{Entries, Dir, File, Object, FileTree, object_at, birth_at, node_of_key}
 use Rattle.ds_tree.specs.Steps.{Does, Lists, is_above, entries_above}
 use Rattle.ds_tree.specs.declared.calls.CallOf.TheVariants as calls

@@ -21,15 +21,15 @@ use Rattle.ds_image.specs.declared.asks.Ask.{Ask}
 use Rattle.ds_image.specs.declared.asks.Ask.TheVariants as asks
 use Rattle.ds_image.proofs.EntryNames.{get-entries}
 use Rattle.ds_names.specs.Answers.{lookup_reply, lookup_known}
-use Rattle.ds_plans.specs.Bodies.{dir_of_key}
-use Rattle.ds_plans.specs.DirAsks.{DirAsks}
-use Rattle.ds_plans.specs.DirSeen.{HasDir, said_found, said_entry, IsFoundIn}
-use Rattle.ds_plans.specs.Entries.{entry_named, found_in}
-use Rattle.ds_plans.specs.Steps.{settled}
-use Rattle.ds_plans.specs.declared.entries.Found.{Found}
-use Rattle.ds_plans.proofs.Dirs.{dir_goes, dir_in, object_in}
-use Rattle.ds_plans.proofs.Finding.{find_goes, named-at, named-find}
-use Rattle.ds_plans.proofs.Going.{goes-after, goes-settled}
+use Rattle.ds_plan_base.specs.Bodies.{dir_of_key}
+use Rattle.ds_plan_base.specs.DirAsks.{DirAsks}
+use Rattle.ds_plan_base.specs.DirSeen.{HasDir, said_found, said_entry, IsFoundIn}
+use Rattle.ds_plan_base.specs.Entries.{entry_named, found_in}
+use Rattle.ds_plan_base.specs.Steps.{settled}
+use Rattle.ds_plan_base.specs.declared.entries.Found.{Found}
+use Rattle.ds_plan_base.proofs.Dirs.{dir_goes, dir_in, object_in}
+use Rattle.ds_plan_base.proofs.Finding.{find_goes, named-at, named-find}
+use Rattle.ds_plan_base.proofs.Going.{goes-after, goes-settled}
 use Rattle.ds_tree.specs.Nodes.{Entries, Node, Dir, File, Object, FileTree, object_at, node_of_key, kind_of}
 use Rattle.ds_tree.specs.Steps.{Does, Finds}
 use Rattle.ds_tree.specs.declared.calls.CallOf.TheVariants as calls

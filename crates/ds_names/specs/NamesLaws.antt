@@ -1,13 +1,13 @@
 -- The planner of calls on names keeps the law of planners.
 use Rattle.ds_base.specs.Geometry.{IsGeom}
 use Rattle.ds_image.specs.Planning.{AllKeep, AllAreFew}
-use Rattle.ds_make.specs.Laws.{make_keeps, make_few}
+use Rattle.ds_plan_make.specs.Laws.{make_keeps, make_few}
 use Rattle.ds_names.specs.Calls.{geom_of, call_of, answers_of}
 use Rattle.ds_names.specs.Laws.{reads_keep, reads_few}
 use Rattle.ds_names.specs.declared.names.Names.{Names}
 use Rattle.ds_names.specs.declared.names.Names.TheVariants.{Reads, Makes, Removes, Renames}
-use Rattle.ds_remove.specs.Laws.{remove_keeps, remove_few}
-use Rattle.ds_rename.specs.Laws.{rename_keeps, rename_few}
+use Rattle.ds_plan_remove.specs.Laws.{remove_keeps, remove_few}
+use Rattle.ds_plan_rename.specs.Laws.{rename_keeps, rename_few}
 use Rattle.ds_tree.specs.CallNames.{HasNames}
 
 pub names_keep : (plan : Names) → IsGeom (geom_of plan) → HasNames (call_of plan) → AllKeep (geom_of plan) (call_of plan) (answers_of plan)

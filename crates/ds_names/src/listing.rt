@@ -16,7 +16,7 @@ use ds_base::{Geom, Key, Name};
 use ds_dir::Entry;
 use ds_fd::Body;
 use ds_image::Seen;
-use ds_plans::{Stop, copy_of, dir_of_key, sub_block, subs_of};
+use ds_plan_base::{Stop, copy_of, dir_of_key, sub_block, subs_of};
 use ds_tree::TreeReply;
 use std::cmp::Ordering;
 

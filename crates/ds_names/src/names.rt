@@ -7,9 +7,9 @@ ghost use Rattle.ds_tree.specs.CallNames.{HasNames};
 use crate::reading::DirReads;
 use ds_base::{Geom, SlotNo};
 use ds_image::{Ask, Plan, Seen};
-use ds_make::Make;
-use ds_remove::Remove;
-use ds_rename::Rename;
+use ds_plan_make::Make;
+use ds_plan_remove::Remove;
+use ds_plan_rename::Rename;
 use ds_tree::{Call, CallOf};
 
 /// What a host does for a call on names: which lock it takes next, which sector it reads next, and what it answers or writes then.
@@ -52,7 +52,7 @@ impl Plan for Names {
     ghost use Rattle.ds_image.specs.SeenValues.{look_of};
     ghost use Rattle.ds_names.specs.Calls.{answers_of, call_of, geom_of, slot_of};
     ghost use Rattle.ds_names.specs.NamesLaws.{names_keep, names_few};
-    ghost use Rattle.ds_plans.specs.Locks.{IsAllowed};
+    ghost use Rattle.ds_plan_base.specs.Locks.{IsAllowed};
 
     ghost geom = { geom_of };
 

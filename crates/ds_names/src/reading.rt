@@ -11,7 +11,7 @@ ghost use Rattle.ds_tree.specs.CallNames.{HasNames};
 use crate::listing::list;
 use ds_base::{Geom, Key, Name, SlotNo, Word};
 use ds_image::{Ask, Plan, Seen};
-use ds_plans::{Stop, dir_of_key, find, name_of};
+use ds_plan_base::{Stop, dir_of_key, find, name_of};
 use ds_tree::{Call, CallOf, TreeReply};
 use std::marker::Model;
 
@@ -133,7 +133,7 @@ impl Plan for DirReads {
     ghost use Rattle.ds_image.specs.SeenValues.{look_of};
     ghost use Rattle.ds_names.specs.Answers.{answers_of, call_of};
     ghost use Rattle.ds_names.specs.Laws.{reads_keep, reads_few};
-    ghost use Rattle.ds_plans.specs.Locks.{IsAllowed};
+    ghost use Rattle.ds_plan_base.specs.Locks.{IsAllowed};
 
     ghost geom = { λ plan. plan.geom };
 

@@ -9,9 +9,9 @@ use Rattle.ds_base.specs.declared.names.NodeKind.{NodeKind}
 use Rattle.ds_base.specs.declared.names.NodeKind.TheVariants as kinds
 use Rattle.ds_fd.specs.Body.{IsBody}
 use Rattle.ds_fd.specs.declared.body.Body.{Body}
-use Rattle.ds_plans.specs.declared.stops.Ending.TheVariants as endings
-use Rattle.ds_plans.specs.declared.stops.Stop.{Stop}
-use Rattle.ds_plans.specs.declared.stops.Stop.TheVariants.{Done}
+use Rattle.ds_plan_base.specs.declared.stops.Ending.TheVariants as endings
+use Rattle.ds_plan_base.specs.declared.stops.Stop.{Stop}
+use Rattle.ds_plan_base.specs.declared.stops.Stop.TheVariants.{Done}
 use Rattle.ds_space.specs.Files.{CanResize, difference, file_by, body_of_file, body_to_size}
 
 -- what is taken for a file is the body of one

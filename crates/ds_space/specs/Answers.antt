@@ -8,9 +8,9 @@ use Rattle.ds_image.specs.Planning.{Answers}
 use Rattle.ds_image.specs.SeenValues.{SeenValue}
 use Rattle.ds_image.specs.declared.asks.Ask.{Ask}
 use Rattle.ds_image.specs.declared.asks.Ask.TheVariants.{Change}
-use Rattle.ds_plans.specs.Steps.{after}
-use Rattle.ds_plans.specs.Stops.{ask_of}
-use Rattle.ds_plans.specs.declared.stops.Stop.{Stop}
+use Rattle.ds_plan_base.specs.Steps.{after}
+use Rattle.ds_plan_base.specs.Stops.{ask_of}
+use Rattle.ds_plan_base.specs.declared.stops.Stop.{Stop}
 use Rattle.ds_space.specs.Files.{file_to_size}
 use Rattle.ds_space.specs.Growing.{growth_known}
 use Rattle.ds_space.specs.Redos.{redo_of}

@@ -6,9 +6,9 @@ use Rattle.ds_base.specs.declared.geometry.Kind.{Kind}
 use Rattle.ds_fd.specs.declared.body.Body.{Body}
 use Rattle.ds_image.specs.Parts.{Parts}
 use Rattle.ds_image.specs.SeenValues.{SeenValue}
-use Rattle.ds_plans.specs.Pointers.{pointer_seen}
-use Rattle.ds_plans.specs.Steps.{after}
-use Rattle.ds_plans.specs.declared.stops.Stop.{Stop}
+use Rattle.ds_plan_base.specs.Pointers.{pointer_seen}
+use Rattle.ds_plan_base.specs.Steps.{after}
+use Rattle.ds_plan_base.specs.declared.stops.Stop.{Stop}
 use Rattle.ds_space.specs.declared.blocks.Blocks.{Blocks}
 use Rattle.ds_tree.specs.Counts.{pointer_blocks}
 

@@ -24,23 +24,23 @@ use Rattle.ds_image.specs.declared.asks.Ask.TheVariants as asks
 use Rattle.ds_image.proofs.Sizes.{body_is}
 use Rattle.ds_layout.specs.Places.{place_sector}
 use Rattle.ds_layout.specs.declared.places.Place.TheVariants as places
-use Rattle.ds_plans.specs.Bodies.{part_seen}
-use Rattle.ds_plans.specs.Goes.{Goes}
-use Rattle.ds_plans.specs.Locks.{block_seen}
-use Rattle.ds_plans.specs.PlanAsks.{PlanAsks}
-use Rattle.ds_plans.proofs.Dirs.{body_in}
-use Rattle.ds_plans.proofs.Going.{goes-after, goes-if, goes-part}
-use Rattle.ds_plans.proofs.Limits.{or-left, or-right}
-use Rattle.ds_plans.specs.declared.stops.Stop.{Stop}
+use Rattle.ds_plan_base.specs.Bodies.{part_seen}
+use Rattle.ds_plan_base.specs.Goes.{Goes}
+use Rattle.ds_plan_base.specs.Locks.{block_seen}
+use Rattle.ds_plan_base.specs.PlanAsks.{PlanAsks}
+use Rattle.ds_plan_base.proofs.Dirs.{body_in}
+use Rattle.ds_plan_base.proofs.Going.{goes-after, goes-if, goes-part}
+use Rattle.ds_plan_base.proofs.Limits.{or-left, or-right}
+use Rattle.ds_plan_base.specs.declared.stops.Stop.{Stop}
 use Rattle.ds_ptr.specs.declared.ptr_block.PtrBlock.{PtrBlock}
-use Rattle.ds_sizes.specs.Pages.{ptrs_in, blocks_in}
-use Rattle.ds_sizes.proofs.BuiltPages.{pages-joined}
-use Rattle.ds_sizes.proofs.Paged.{ptrs-length, some-pointers}
-use Rattle.ds_sizes.proofs.PointerSectors.{pointer-listed, pointer-in_range, pointer-guard}
-use Rattle.ds_sizes.proofs.SpelledBlocks.{size-is, spelled-blocks}
+use Rattle.ds_plan_laws_size.specs.Pages.{ptrs_in, blocks_in}
+use Rattle.ds_plan_laws_size.proofs.BuiltPages.{pages-joined}
+use Rattle.ds_plan_laws_size.proofs.Paged.{ptrs-length, some-pointers}
+use Rattle.ds_plan_laws_size.proofs.PointerSectors.{pointer-listed, pointer-in_range, pointer-guard}
+use Rattle.ds_plan_laws_size.proofs.SpelledBlocks.{size-is, spelled-blocks}
 use Rattle.ds_space.specs.Below.{below-take, below-flat}
-use Rattle.ds_plans.specs.Pointers.{pointer_seen}
-use Rattle.ds_plans.proofs.Alike.{ptr_alike}
+use Rattle.ds_plan_base.specs.Pointers.{pointer_seen}
+use Rattle.ds_plan_base.proofs.Alike.{ptr_alike}
 use Rattle.ds_space.specs.Blocks.{addresses_seen, blocks_of, blocks_seen, cut, pointers_in, pointers_from}
 use Rattle.ds_space.specs.FileWalk.{HasFile}
 use Rattle.ds_space.specs.Holding.{MayHold, MayRead, of_pointer}

@@ -17,12 +17,12 @@ use Rattle.ds_image.specs.Owned.{CanMark}
 use Rattle.ds_image.specs.Parts.{Parts}
 use Rattle.ds_image.specs.SeenValues.{SeenValue}
 use Rattle.ds_layout.proofs.Bounds.{most_items_of}
-use Rattle.ds_plans.specs.Items.{map_seen}
-use Rattle.ds_plans.specs.Locks.{cluster_tried}
-use Rattle.ds_plans.specs.Steps.{after}
-use Rattle.ds_plans.specs.declared.stops.Ending.TheVariants as endings
-use Rattle.ds_plans.specs.declared.stops.Stop.{Stop}
-use Rattle.ds_plans.specs.declared.stops.Stop.TheVariants.{Done}
+use Rattle.ds_plan_base.specs.Items.{map_seen}
+use Rattle.ds_plan_base.specs.Locks.{cluster_tried}
+use Rattle.ds_plan_base.specs.Steps.{after}
+use Rattle.ds_plan_base.specs.declared.stops.Ending.TheVariants as endings
+use Rattle.ds_plan_base.specs.declared.stops.Stop.{Stop}
+use Rattle.ds_plan_base.specs.declared.stops.Stop.TheVariants.{Done}
 use Rattle.ds_space.specs.Blocks.{AreItems}
 use Rattle.ds_space.specs.Taking.{items_from, lowest_clear, map_marked, map_pair, taken_more}
 use Rattle.ds_space.specs.declared.taking.Taken.{Taken}

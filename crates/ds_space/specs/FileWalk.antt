@@ -20,19 +20,19 @@ use Rattle.ds_image.specs.declared.asks.Ask.{Ask}
 use Rattle.ds_image.specs.declared.asks.Ask.TheVariants as asks
 use Rattle.ds_layout.specs.Places.{place_sector}
 use Rattle.ds_layout.specs.declared.places.Place.TheVariants as places
-use Rattle.ds_plans.specs.Bodies.{body_seen, body_alive}
-use Rattle.ds_plans.specs.Goes.{Goes}
-use Rattle.ds_plans.specs.Locks.{SeesBody, of_key}
-use Rattle.ds_plans.specs.PlanAsks.{PlanAsks}
-use Rattle.ds_plans.specs.Steps.{after}
-use Rattle.ds_plans.proofs.BodyWalk.{HasBody, body_goes}
-use Rattle.ds_plans.proofs.Dirs.{body_in}
-use Rattle.ds_plans.proofs.Going.{goes-after, goes-if}
-use Rattle.ds_plans.specs.declared.stops.Ending.TheVariants as endings
-use Rattle.ds_plans.specs.declared.stops.Stop.{Stop}
-use Rattle.ds_plans.specs.declared.stops.Stop.TheVariants as stops
-use Rattle.ds_plans.proofs.Alike.{none-there}
-use Rattle.ds_sizes.proofs.Refused.{resize-past, resize-unused, resize-other_life, resize-dir, resize-too_big, resize-too_much, resize-same}
+use Rattle.ds_plan_base.specs.Bodies.{body_seen, body_alive}
+use Rattle.ds_plan_base.specs.Goes.{Goes}
+use Rattle.ds_plan_base.specs.Locks.{SeesBody, of_key}
+use Rattle.ds_plan_base.specs.PlanAsks.{PlanAsks}
+use Rattle.ds_plan_base.specs.Steps.{after}
+use Rattle.ds_plan_base.proofs.BodyWalk.{HasBody, body_goes}
+use Rattle.ds_plan_base.proofs.Dirs.{body_in}
+use Rattle.ds_plan_base.proofs.Going.{goes-after, goes-if}
+use Rattle.ds_plan_base.specs.declared.stops.Ending.TheVariants as endings
+use Rattle.ds_plan_base.specs.declared.stops.Stop.{Stop}
+use Rattle.ds_plan_base.specs.declared.stops.Stop.TheVariants as stops
+use Rattle.ds_plan_base.proofs.Alike.{none-there}
+use Rattle.ds_plan_laws_size.proofs.Refused.{resize-past, resize-unused, resize-other_life, resize-dir, resize-too_big, resize-too_much, resize-same}
 use Rattle.ds_space.specs.Files.{difference, file_by, body_of_file, body_to_size, file_to_size}
 use Rattle.ds_space.specs.Holding.{MayHold, the_file, MayRead, of_file}
 use Rattle.ds_tree.specs.Nodes.{FileTree}

@@ -10,11 +10,11 @@ use Rattle.ds_fd.specs.Body.{IsBody}
 use Rattle.ds_fd.specs.declared.body.Body.{Body}
 use Rattle.ds_image.specs.Parts.{Parts}
 use Rattle.ds_image.specs.SeenValues.{SeenValue}
-use Rattle.ds_plans.specs.Bodies.{body_of_key}
-use Rattle.ds_plans.specs.Steps.{after}
-use Rattle.ds_plans.specs.declared.stops.Ending.TheVariants as endings
-use Rattle.ds_plans.specs.declared.stops.Stop.{Stop}
-use Rattle.ds_plans.specs.declared.stops.Stop.TheVariants.{Done}
+use Rattle.ds_plan_base.specs.Bodies.{body_of_key}
+use Rattle.ds_plan_base.specs.Steps.{after}
+use Rattle.ds_plan_base.specs.declared.stops.Ending.TheVariants as endings
+use Rattle.ds_plan_base.specs.declared.stops.Stop.{Stop}
+use Rattle.ds_plan_base.specs.declared.stops.Stop.TheVariants.{Done}
 
 -- the body, where it is of a file
 abbrev pub file_by : Body → Option NodeKind → Result Body Stop

@@ -29,26 +29,26 @@ use Rattle.ds_image.specs.declared.asks.Ask.{Ask}
 use Rattle.ds_image.proofs.Sizes.{body_is}
 use Rattle.ds_layout.specs.Places.{cluster_lock, place_sector}
 use Rattle.ds_layout.specs.declared.places.Place.TheVariants as places
-use Rattle.ds_plans.specs.Goes.{Goes}
-use Rattle.ds_plans.specs.Locks.{MayGrow, blocks_for_size, pointers_for_size}
-use Rattle.ds_plans.specs.PlanAsks.{PlanAsks, IsPlanChange}
-use Rattle.ds_plans.proofs.Dirs.{body_in}
-use Rattle.ds_plans.proofs.GivingWalk.{map-in}
-use Rattle.ds_plans.proofs.Going.{goes-after}
-use Rattle.ds_sizes.specs.Pages.{ptrs_in, blocks_in}
-use Rattle.ds_sizes.specs.Planned.{GrowsFile, HasSize}
-use Rattle.ds_sizes.specs.Pointers.{WritesPages}
-use Rattle.ds_sizes.specs.Ready.{ReadyToResize, resize_parts}
-use Rattle.ds_sizes.specs.Resizing.{blocks_after}
-use Rattle.ds_sizes.specs.Takes.{Take, items_taken, maps_taken, Takes}
-use Rattle.ds_sizes.specs.Written.{ArePairsOf}
-use Rattle.ds_sizes.proofs.BuiltPages.{sized-body, sized-pointers, sized-no_pointers}
-use Rattle.ds_sizes.proofs.Paged.{ptrs-length}
-use Rattle.ds_sizes.proofs.ReadyFiles.{grown-ready, pointers-rise}
-use Rattle.ds_sizes.proofs.Refused.{resize-no_blocks, resize-no_pointers}
-use Rattle.ds_sizes.proofs.SpelledBlocks.{size-is}
-use Rattle.ds_sizes.proofs.TakenItems.{takes-can}
-use Rattle.ds_sizes.proofs.WrittenPages.{pointers-once}
+use Rattle.ds_plan_base.specs.Goes.{Goes}
+use Rattle.ds_plan_base.specs.Locks.{MayGrow, blocks_for_size, pointers_for_size}
+use Rattle.ds_plan_base.specs.PlanAsks.{PlanAsks, IsPlanChange}
+use Rattle.ds_plan_base.proofs.Dirs.{body_in}
+use Rattle.ds_plan_base.proofs.GivingWalk.{map-in}
+use Rattle.ds_plan_base.proofs.Going.{goes-after}
+use Rattle.ds_plan_laws_size.specs.Pages.{ptrs_in, blocks_in}
+use Rattle.ds_plan_laws_size.specs.Planned.{GrowsFile, HasSize}
+use Rattle.ds_plan_laws_size.specs.Pointers.{WritesPages}
+use Rattle.ds_plan_laws_size.specs.Ready.{ReadyToResize, resize_parts}
+use Rattle.ds_plan_laws_size.specs.Resizing.{blocks_after}
+use Rattle.ds_plan_laws_size.specs.Takes.{Take, items_taken, maps_taken, Takes}
+use Rattle.ds_plan_laws_size.specs.Written.{ArePairsOf}
+use Rattle.ds_plan_laws_size.proofs.BuiltPages.{sized-body, sized-pointers, sized-no_pointers}
+use Rattle.ds_plan_laws_size.proofs.Paged.{ptrs-length}
+use Rattle.ds_plan_laws_size.proofs.ReadyFiles.{grown-ready, pointers-rise}
+use Rattle.ds_plan_laws_size.proofs.Refused.{resize-no_blocks, resize-no_pointers}
+use Rattle.ds_plan_laws_size.proofs.SpelledBlocks.{size-is}
+use Rattle.ds_plan_laws_size.proofs.TakenItems.{takes-can}
+use Rattle.ds_plan_laws_size.proofs.WrittenPages.{pointers-once}
 use Rattle.ds_space.specs.Below.{below-append, below-take, below-padded, below-items}
 use Rattle.ds_space.specs.Blocks.{AreItems, blocks_seen, pointers_in, pointers_from}
 use Rattle.ds_space.specs.BlocksWalk.{HasOld, blocks_goes}

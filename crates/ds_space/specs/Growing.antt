@@ -5,8 +5,8 @@ use Rattle.ds_base.specs.declared.geometry.Kind.TheVariants.{Pb, Fb}
 use Rattle.ds_fd.specs.declared.body.Body.{Body}
 use Rattle.ds_image.specs.Parts.{Parts}
 use Rattle.ds_image.specs.SeenValues.{SeenValue}
-use Rattle.ds_plans.specs.Steps.{after}
-use Rattle.ds_plans.specs.declared.stops.Stop.{Stop}
+use Rattle.ds_plan_base.specs.Steps.{after}
+use Rattle.ds_plan_base.specs.declared.stops.Stop.{Stop}
 use Rattle.ds_space.specs.Blocks.{blocks_of, blocks_seen, pointers_in}
 use Rattle.ds_space.specs.Ordered.{in_order, put_all_in}
 use Rattle.ds_space.specs.Redos.{body_sized, used_by}

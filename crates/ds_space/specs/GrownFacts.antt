@@ -9,10 +9,10 @@ use Rattle.ds_base.specs.declared.names.NodeKind.TheVariants as kinds
 use Rattle.ds_bytes.specs.Fields.{AllBelow}
 use Rattle.ds_fd.specs.Body.{IsBody}
 use Rattle.ds_fd.specs.declared.body.Body.{Body}
-use Rattle.ds_sizes.specs.Planned.{HasSize}
-use Rattle.ds_sizes.proofs.BuiltPages.{sized-is_body, sized-pointers, sized-no_pointers}
-use Rattle.ds_sizes.proofs.Paged.{ptrs-length, few-pointers, some-pointers}
-use Rattle.ds_sizes.proofs.ReadyFiles.{pointers-rise}
+use Rattle.ds_plan_laws_size.specs.Planned.{HasSize}
+use Rattle.ds_plan_laws_size.proofs.BuiltPages.{sized-is_body, sized-pointers, sized-no_pointers}
+use Rattle.ds_plan_laws_size.proofs.Paged.{ptrs-length, few-pointers, some-pointers}
+use Rattle.ds_plan_laws_size.proofs.ReadyFiles.{pointers-rise}
 use Rattle.ds_space.specs.Blocks.{AreItems, pointers_in, pointers_from}
 use Rattle.ds_space.specs.Files.{CanResize}
 use Rattle.ds_space.specs.Growing.{grown}

@@ -20,9 +20,9 @@ use Rattle.ds_image.specs.SeenValues.{SeenValue, look_of}
 use Rattle.ds_image.proofs.Sizes.{body_is, part_within}
 use Rattle.ds_layout.specs.Places.{cluster_lock, clusters_at, clusters_before, place_sector}
 use Rattle.ds_layout.specs.declared.places.Place.TheVariants as places
-use Rattle.ds_plans.proofs.Alike.{body_alike}
-use Rattle.ds_plans.proofs.Growing.{Grows}
-use Rattle.ds_plans.proofs.Limits.{firsts, length-firsts, or-left, in-front, behind, in-mapped, in-firsts}
+use Rattle.ds_plan_base.proofs.Alike.{body_alike}
+use Rattle.ds_plan_base.proofs.Growing.{Grows}
+use Rattle.ds_plan_base.proofs.Limits.{firsts, length-firsts, or-left, in-front, behind, in-mapped, in-firsts}
 use Rattle.ds_tree.specs.Counts.{pointer_blocks}
 
 -- the file, and the clusters of pointer blocks and of file blocks

@@ -5,7 +5,7 @@ use Rattle.std.specs.List.Sorted.{IsStrictlyIncreasing}
 use Rattle.std.proofs.lemmas.Bool.{cases_lt}
 use Rattle.std.proofs.lemmas.Bool.Decides.{nat_tests}
 use Rattle.ds_image.specs.Pending.{Pair}
-use Rattle.ds_sizes.specs.Written.{AreOnce}
+use Rattle.ds_plan_laws_size.specs.Written.{AreOnce}
 use Rattle.ds_space.specs.Ordered.{put_in, put_all_in}
 
 -- parts by rising numbers with one more in its place; of two with one number the later one counts

@@ -14,7 +14,7 @@ use Rattle.ds_base.specs.declared.geometry.Kind.{Kind}
 use Rattle.ds_base.specs.declared.names.Key.{Key}
 use Rattle.ds_base.specs.declared.sectors.Sector.{Sector}
 use Rattle.ds_bitmap.specs.Bits.{Bitmap}
-use Rattle.ds_changes.proofs.Bits.{clear_count, clear-by_cluster}
+use Rattle.ds_plan_laws_new.proofs.Bits.{clear_count, clear-by_cluster}
 use Rattle.ds_image.specs.Asking.{Agrees}
 use Rattle.ds_image.specs.Owned.{CanMark}
 use Rattle.ds_image.specs.Parts.{Parts, part_at, maps_of, bits_in, used_bits}
@@ -27,18 +27,18 @@ use Rattle.ds_image.specs.declared.asks.Ask.TheVariants as asks
 use Rattle.ds_image.proofs.Places.{at-append, at-single}
 use Rattle.ds_layout.specs.Places.{cluster_lock, place_sector}
 use Rattle.ds_layout.specs.declared.places.Place.TheVariants as places
-use Rattle.ds_plans.specs.Goes.{Goes}
-use Rattle.ds_plans.specs.Items.{map_seen}
-use Rattle.ds_plans.specs.Locks.{to_take, Needs, SeesFree, cluster_tried, map_tried, clear_in}
-use Rattle.ds_plans.specs.PlanAsks.{PlanAsks, HasMap}
-use Rattle.ds_plans.proofs.Bitmaps.{tried-within}
-use Rattle.ds_plans.proofs.GivingWalk.{map-in}
-use Rattle.ds_plans.proofs.Going.{goes-after, goes-if}
-use Rattle.ds_plans.proofs.MapWalk.{map_goes}
-use Rattle.ds_plans.specs.declared.stops.Ending.TheVariants as endings
-use Rattle.ds_plans.specs.declared.stops.Stop.TheVariants as stops
-use Rattle.ds_sizes.specs.Takes.{Take, items_taken, maps_taken}
-use Rattle.ds_sizes.specs.Written.{AreOnce}
+use Rattle.ds_plan_base.specs.Goes.{Goes}
+use Rattle.ds_plan_base.specs.Items.{map_seen}
+use Rattle.ds_plan_base.specs.Locks.{to_take, Needs, SeesFree, cluster_tried, map_tried, clear_in}
+use Rattle.ds_plan_base.specs.PlanAsks.{PlanAsks, HasMap}
+use Rattle.ds_plan_base.proofs.Bitmaps.{tried-within}
+use Rattle.ds_plan_base.proofs.GivingWalk.{map-in}
+use Rattle.ds_plan_base.proofs.Going.{goes-after, goes-if}
+use Rattle.ds_plan_base.proofs.MapWalk.{map_goes}
+use Rattle.ds_plan_base.specs.declared.stops.Ending.TheVariants as endings
+use Rattle.ds_plan_base.specs.declared.stops.Stop.TheVariants as stops
+use Rattle.ds_plan_laws_size.specs.Takes.{Take, items_taken, maps_taken}
+use Rattle.ds_plan_laws_size.specs.Written.{AreOnce}
 use Rattle.ds_space.specs.Blocks.{AreItems}
 use Rattle.ds_space.specs.Clusters.{joined-items, mapped-items}
 use Rattle.ds_space.specs.LowestItems.{lowest-can}

@@ -10,12 +10,12 @@ use Rattle.ds_image.specs.Planning.{AllKeep, AllAreFew}
 use Rattle.ds_image.specs.Readings.{Reads}
 use Rattle.ds_image.specs.SeenValues.{SeenValue, look_of}
 use Rattle.ds_image.specs.declared.asks.Ask.{Ask}
-use Rattle.ds_plans.specs.Goes.{Goes}
-use Rattle.ds_plans.specs.Locks.{IsAllowed}
-use Rattle.ds_plans.specs.PlanAsks.{PlanAsks, IsPlanChange}
-use Rattle.ds_plans.proofs.Going.{goes-after, goes-if}
-use Rattle.ds_plans.proofs.PlanLaws.{plan_keeps, plan_allowed, plan_few}
-use Rattle.ds_plans.specs.declared.stops.Stop.{Stop}
+use Rattle.ds_plan_base.specs.Goes.{Goes}
+use Rattle.ds_plan_base.specs.Locks.{IsAllowed}
+use Rattle.ds_plan_base.specs.PlanAsks.{PlanAsks, IsPlanChange}
+use Rattle.ds_plan_base.proofs.Going.{goes-after, goes-if}
+use Rattle.ds_plan_base.proofs.PlanLaws.{plan_keeps, plan_allowed, plan_few}
+use Rattle.ds_plan_base.specs.declared.stops.Stop.{Stop}
 use Rattle.ds_space.specs.Answers.{SpaceValue, call_of, resized_by, resize_known, changed, answers_of}
 use Rattle.ds_space.specs.Files.{file_to_size}
 use Rattle.ds_space.specs.FileWalk.{HasFile, file_goes}

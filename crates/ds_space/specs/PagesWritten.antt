@@ -6,8 +6,8 @@ use Rattle.std.proofs.lemmas.List.{get_or_append_left, get_or-append_right, get_
 use Rattle.ds_bytes.specs.Fields.{zeros, AllBelow}
 use Rattle.ds_fd.specs.declared.body.Body.{Body}
 use Rattle.ds_ptr.specs.declared.ptr_block.PtrBlock.{PtrBlock}
-use Rattle.ds_sizes.specs.Pages.{ptrs_in, IsPage}
-use Rattle.ds_sizes.specs.Pointers.{WritesPages}
+use Rattle.ds_plan_laws_size.specs.Pages.{ptrs_in, IsPage}
+use Rattle.ds_plan_laws_size.specs.Pointers.{WritesPages}
 use Rattle.ds_space.specs.Below.{below-take, below-padded, zeros-at}
 use Rattle.ds_space.specs.Redos.{padded, pages_of}
 

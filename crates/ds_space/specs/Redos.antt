@@ -7,7 +7,7 @@ use Rattle.ds_image.specs.Pending.{Pair}
 use Rattle.ds_jrnl.specs.declared.redo.Redo.{Redo}
 use Rattle.ds_layout.specs.Places.{place_sector}
 use Rattle.ds_layout.specs.declared.places.Place.TheVariants as places
-use Rattle.ds_plans.specs.Redos.{body_pair}
+use Rattle.ds_plan_base.specs.Redos.{body_pair}
 use Rattle.ds_ptr.specs.PtrBlock.{ptr_bytes}
 use Rattle.ds_ptr.specs.declared.ptr_block.PtrBlock.{PtrBlock}
 use Rattle.ds_space.specs.Blocks.{pointers_from}

@@ -8,8 +8,8 @@ use Rattle.ds_base.specs.declared.geometry.Kind.TheVariants.{Fd, Pb, Fb}
 use Rattle.ds_base.specs.declared.names.Key.{Key}
 use Rattle.ds_base.specs.declared.sectors.Sector.{Sector}
 use Rattle.ds_bitmap.specs.Bits.{Bitmap}
-use Rattle.ds_changes.specs.Guarded.{HoldsLock}
-use Rattle.ds_changes.proofs.RightChanges.{right-change}
+use Rattle.ds_plan_laws_new.specs.Guarded.{HoldsLock}
+use Rattle.ds_plan_laws_new.proofs.RightChanges.{right-change}
 use Rattle.ds_fd.specs.declared.body.Body.{Body}
 use Rattle.ds_image.specs.Asking.{IsRightChange}
 use Rattle.ds_image.specs.Parts.{Parts}
@@ -19,15 +19,15 @@ use Rattle.ds_image.specs.Sound.{StandsFor}
 use Rattle.ds_image.proofs.Places.{at-append}
 use Rattle.ds_layout.specs.Places.{cluster_lock, descriptors_at, place_sector}
 use Rattle.ds_layout.specs.declared.places.Place.TheVariants as places
-use Rattle.ds_plans.specs.Redos.{body_pair}
+use Rattle.ds_plan_base.specs.Redos.{body_pair}
 use Rattle.ds_ptr.specs.declared.ptr_block.PtrBlock.{PtrBlock}
-use Rattle.ds_sizes.specs.Clusters.{MarksClusters}
-use Rattle.ds_sizes.specs.Pointers.{WritesPages}
-use Rattle.ds_sizes.specs.Ready.{ReadyToResize, resize_parts}
-use Rattle.ds_sizes.specs.Written.{Written, MapPart, BodyPart, PtrPart, IsPairOf, ArePairsOf}
-use Rattle.ds_sizes.proofs.GuardedResizes.{resized-guarded_before, resized-guarded_after}
-use Rattle.ds_sizes.proofs.ResizeTargets.{rising-once}
-use Rattle.ds_sizes.proofs.StandsResized.{resized-leaves}
+use Rattle.ds_plan_laws_size.specs.Clusters.{MarksClusters}
+use Rattle.ds_plan_laws_size.specs.Pointers.{WritesPages}
+use Rattle.ds_plan_laws_size.specs.Ready.{ReadyToResize, resize_parts}
+use Rattle.ds_plan_laws_size.specs.Written.{Written, MapPart, BodyPart, PtrPart, IsPairOf, ArePairsOf}
+use Rattle.ds_plan_laws_size.proofs.GuardedResizes.{resized-guarded_before, resized-guarded_after}
+use Rattle.ds_plan_laws_size.proofs.ResizeTargets.{rising-once}
+use Rattle.ds_plan_laws_size.proofs.StandsResized.{resized-leaves}
 use Rattle.ds_space.specs.Files.{difference}
 use Rattle.ds_space.specs.InOrder.{AreBelow, put_all_by, put_all-map, put_all-behind, sorted-rises, sorted-from, sorted-there}
 use Rattle.ds_space.specs.Ordered.{put_all_in}

@@ -34,26 +34,26 @@ use Rattle.ds_image.proofs.Sizes.{body_is}
 use Rattle.ds_jrnl.specs.declared.redo.Redo.{Redo}
 use Rattle.ds_layout.specs.Places.{cluster_lock, place_sector}
 use Rattle.ds_layout.specs.declared.places.Place.TheVariants as places
-use Rattle.ds_plans.specs.Giving.{Maps, map_sectors, maps_left, with_maps_left, given_up}
-use Rattle.ds_plans.specs.Goes.{Goes}
-use Rattle.ds_plans.specs.Locks.{GivesUp, block_past, pointer_past}
-use Rattle.ds_plans.specs.PlanAsks.{PlanAsks, IsPlanChange}
-use Rattle.ds_plans.proofs.Cleared.{left-clears, ClearsKind}
-use Rattle.ds_plans.proofs.Dirs.{body_in}
-use Rattle.ds_plans.proofs.GivingWalk.{AreMarked, give_goes, map-known}
-use Rattle.ds_plans.proofs.Going.{goes-after}
-use Rattle.ds_plans.proofs.MapsLeft.{AreLeft}
-use Rattle.ds_sizes.specs.Pages.{ptrs_in, blocks_in}
-use Rattle.ds_sizes.specs.Planned.{ShrinksFile, HasSize}
-use Rattle.ds_sizes.specs.Pointers.{WritesPages}
-use Rattle.ds_sizes.specs.Ready.{ReadyToResize}
-use Rattle.ds_sizes.specs.Resizing.{blocks_after}
-use Rattle.ds_sizes.specs.Takes.{Gives}
-use Rattle.ds_sizes.proofs.BuiltPages.{sized-body, sized-pointers, sized-no_pointers}
-use Rattle.ds_sizes.proofs.FileLists.{block_list-is}
-use Rattle.ds_sizes.proofs.PointerSectors.{pointer-listed}
-use Rattle.ds_sizes.proofs.ReadyFiles.{shrunk-ready}
-use Rattle.ds_sizes.proofs.WrittenPages.{pointers-once}
+use Rattle.ds_plan_base.specs.Giving.{Maps, map_sectors, maps_left, with_maps_left, given_up}
+use Rattle.ds_plan_base.specs.Goes.{Goes}
+use Rattle.ds_plan_base.specs.Locks.{GivesUp, block_past, pointer_past}
+use Rattle.ds_plan_base.specs.PlanAsks.{PlanAsks, IsPlanChange}
+use Rattle.ds_plan_base.proofs.Cleared.{left-clears, ClearsKind}
+use Rattle.ds_plan_base.proofs.Dirs.{body_in}
+use Rattle.ds_plan_base.proofs.GivingWalk.{AreMarked, give_goes, map-known}
+use Rattle.ds_plan_base.proofs.Going.{goes-after}
+use Rattle.ds_plan_base.proofs.MapsLeft.{AreLeft}
+use Rattle.ds_plan_laws_size.specs.Pages.{ptrs_in, blocks_in}
+use Rattle.ds_plan_laws_size.specs.Planned.{ShrinksFile, HasSize}
+use Rattle.ds_plan_laws_size.specs.Pointers.{WritesPages}
+use Rattle.ds_plan_laws_size.specs.Ready.{ReadyToResize}
+use Rattle.ds_plan_laws_size.specs.Resizing.{blocks_after}
+use Rattle.ds_plan_laws_size.specs.Takes.{Gives}
+use Rattle.ds_plan_laws_size.proofs.BuiltPages.{sized-body, sized-pointers, sized-no_pointers}
+use Rattle.ds_plan_laws_size.proofs.FileLists.{block_list-is}
+use Rattle.ds_plan_laws_size.proofs.PointerSectors.{pointer-listed}
+use Rattle.ds_plan_laws_size.proofs.ReadyFiles.{shrunk-ready}
+use Rattle.ds_plan_laws_size.proofs.WrittenPages.{pointers-once}
 use Rattle.ds_space.specs.Below.{below-take, below-padded}
 use Rattle.ds_space.specs.Blocks.{AreItems, blocks_seen, pointers_in, pointers_from}
 use Rattle.ds_space.specs.BlocksWalk.{HasOld, blocks_goes}

@@ -8,9 +8,9 @@ use Rattle.ds_image.specs.SeenValues.{SeenValue}
 use Rattle.ds_jrnl.specs.declared.redo.Redo.{Redo}
 use Rattle.ds_layout.specs.Places.{place_sector}
 use Rattle.ds_layout.specs.declared.places.Place.TheVariants as places
-use Rattle.ds_plans.specs.Giving.{given_up}
-use Rattle.ds_plans.specs.Steps.{after}
-use Rattle.ds_plans.specs.declared.stops.Stop.{Stop}
+use Rattle.ds_plan_base.specs.Giving.{given_up}
+use Rattle.ds_plan_base.specs.Steps.{after}
+use Rattle.ds_plan_base.specs.declared.stops.Stop.{Stop}
 use Rattle.ds_space.specs.Blocks.{blocks_of, blocks_seen, pointers_in, pointers_from}
 use Rattle.ds_space.specs.Redos.{body_sized, used_by}
 use Rattle.ds_space.specs.declared.blocks.Blocks.{Blocks}

@@ -12,7 +12,7 @@ use Rattle.ds_image.specs.Asking.{AreTargets, targets_of}
 use Rattle.ds_image.specs.Metadata.{IsMetadata}
 use Rattle.ds_image.specs.Pending.{Pair}
 use Rattle.ds_layout.specs.declared.places.Place.TheVariants as places
-use Rattle.ds_plans.specs.Redos.{body_pair}
+use Rattle.ds_plan_base.specs.Redos.{body_pair}
 use Rattle.ds_ptr.specs.declared.ptr_block.PtrBlock.{PtrBlock}
 use Rattle.ds_space.specs.Blocks.{pointers_from}
 use Rattle.ds_space.specs.Ordered.{put_all_in}

@@ -11,7 +11,7 @@ use arrayvec::ArrayVec;
 use ds_base::Geom;
 use ds_fd::Body;
 use ds_image::{Seen, pointer_blocks};
-use ds_plans::{Stop, pointer_block};
+use ds_plan_base::{Stop, pointer_block};
 
 /// Blocks of a file, in its order.
 #[derive(Drop)]

@@ -10,7 +10,7 @@ ghost use Rattle.ds_space.specs.Files.{CanResize, body_of_file, body_to_size, fi
 use ds_base::{Geom, Key, NodeKind};
 use ds_fd::Body;
 use ds_image::Seen;
-use ds_plans::{Ending, Stop, body_of_key};
+use ds_plan_base::{Ending, Stop, body_of_key};
 
 /// The body of a key's file, which may get this size and has another; otherwise what a planner asks for, or answers, before it
 /// knows it.

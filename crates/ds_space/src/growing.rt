@@ -19,7 +19,7 @@ use ds_base::{Geom, Kind, SlotNo};
 use ds_fd::Body;
 use ds_image::{Seen, pointer_blocks};
 use ds_jrnl::Redo;
-use ds_plans::Stop;
+use ds_plan_base::Stop;
 
 /// A file that grows, with its new size; otherwise what a planner asks for, or answers, before it knows that.
 pub fn growth_known(

@@ -10,7 +10,7 @@ use crate::pages::{padded, put_in, put_pages};
 use ds_base::Geom;
 use ds_fd::Body;
 use ds_jrnl::Redo;
-use ds_plans::body_pair;
+use ds_plan_base::body_pair;
 
 /// A file with its new size: its body, the blocks from the first page that changes on, and the bitmaps that change, in the rising
 /// order of their sectors.

@@ -19,7 +19,7 @@ use ds_fd::Body;
 use ds_image::{Seen, pointer_blocks};
 use ds_jrnl::Redo;
 use ds_layout::{Place, sector_of};
-use ds_plans::{Stop, give_up};
+use ds_plan_base::{Stop, give_up};
 
 /// A file that shrinks, with its new size; otherwise what a planner asks for before it knows that.
 pub fn shrink_known(geom: &Geom, seen: &Seen, body: &Body, size: u32) -> Result<Resized, Stop>

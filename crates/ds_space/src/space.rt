@@ -13,7 +13,7 @@ use crate::resized::{Resized, redo_of};
 use crate::shrinking::shrink_known;
 use ds_base::{Geom, Key, SlotNo};
 use ds_image::{Ask, Plan, Seen};
-use ds_plans::Stop;
+use ds_plan_base::Stop;
 use ds_tree::{Call, CallOf, TreeReply};
 use std::marker::Model;
 
@@ -89,7 +89,7 @@ impl Plan for Space {
     ghost use Rattle.ds_image.specs.Parts.{Parts};
     ghost use Rattle.ds_image.specs.Readings.{Reads};
     ghost use Rattle.ds_image.specs.SeenValues.{look_of};
-    ghost use Rattle.ds_plans.specs.Locks.{IsAllowed};
+    ghost use Rattle.ds_plan_base.specs.Locks.{IsAllowed};
     ghost use Rattle.ds_space.specs.Answers.{answers_of, call_of};
     ghost use Rattle.ds_space.specs.Laws.{space_keeps, space_few};
 

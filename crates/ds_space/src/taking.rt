@@ -13,7 +13,7 @@ use ds_base::{Geom, Kind, Sector, SectorNo, SlotNo};
 use ds_bitmap::Bits;
 use ds_image::Seen;
 use ds_layout::{Place, sector_of};
-use ds_plans::{Ending, Stop, cluster_tried, clusters, map_seen};
+use ds_plan_base::{Ending, Stop, cluster_tried, clusters, map_seen};
 
 /// Items that are taken: their numbers in their kind, and the sectors of the bitmaps in which they are marked.
 #[derive(Drop)]

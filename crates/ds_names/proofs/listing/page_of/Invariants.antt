@@ -5,7 +5,7 @@ use Rattle.ds_image.specs.Parts.{Parts}
 use Rattle.ds_image.specs.Readings.{Reads}
 use Rattle.ds_image.specs.SeenValues.{look_of}
 use Rattle.ds_names.specs.Pages.{page_names}
-use Rattle.ds_plans.specs.Entries.{subs_known}
+use Rattle.ds_plan_base.specs.Entries.{subs_known}
 use Rattle.ds_names.proofs.listing.page_of.Given as goal
 
 abbrev pub invariant-loop-number : goal.invariant-loop-number

@@ -3,7 +3,7 @@ use Rattle.std.proofs.Common.{◌≡◌, ◌≤◌, ◌%◌, ◌^◌, length, dr
 use Rattle.ds_base.specs.declared.geometry.Kind.TheVariants.{Pb, Fb}
 use Rattle.ds_bytes.specs.Fields.{AllBelow}
 use Rattle.ds_image.specs.Pending.{Pair}
-use Rattle.ds_plans.specs.Giving.{given_up}
+use Rattle.ds_plan_base.specs.Giving.{given_up}
 use Rattle.ds_space.specs.Blocks.{pointers_from}
 use Rattle.ds_space.specs.Writable.{IsWritable}
 use Rattle.ds_space.specs.declared.resized.Resized.{Resized}

@@ -4,7 +4,7 @@ use Rattle.ds_base.specs.Geometry.{clusters_of}
 use Rattle.ds_base.specs.declared.geometry.GeomField.TheVariants.{Clusters}
 use Rattle.ds_image.specs.Owned.{CanMark}
 use Rattle.ds_image.specs.Pending.{Pair}
-use Rattle.ds_plans.proofs.Bitmaps.{err-handed}
+use Rattle.ds_plan_base.proofs.Bitmaps.{err-handed}
 use Rattle.ds_space.specs.Blocks.{AreItems}
 use Rattle.ds_space.specs.LowestItems.{lowest-can}
 use Rattle.ds_space.specs.Taking.{items_from, items_wanted, lowest_clear, taken_of, taken_more}

@@ -1,7 +1,0 @@
--- No room so far is free.
-use Rattle.std.proofs.Common.{◌≡◌, drop}
-use Rattle.ds_plans.specs.Rooms.{first_room}
-use Rattle.ds_plans.proofs.rooms.first_room.Given as goal
-
-abbrev pub invariant-loop-room : goal.invariant-loop-room
-invariant-loop-room l = first_room 0 l.rooms ≡ first_room l.room (drop l.room l.rooms)

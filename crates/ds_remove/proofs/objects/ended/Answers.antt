@@ -1,6 +1,0 @@
--- The body can be spelled.
-use Rattle.ds_remove.specs.ChangeWalk.{ended-body}
-use Rattle.ds_remove.proofs.objects.ended.Goals as goal
-
-pub returns-clause-is_body : goal.returns-clause-is_body
-returns-clause-is_body c = ended-body c.args.body.now c.requires
