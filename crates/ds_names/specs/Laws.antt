@@ -15,7 +15,7 @@ use Rattle.ds_names.specs.Lookups.{lookup_asks}
 use Rattle.ds_names.specs.declared.reading.ReadCall.{ReadCall}
 use Rattle.ds_names.specs.declared.reading.ReadCall.TheVariants as kept
 use Rattle.ds_plan_base.specs.DirAsks.{DirAsks}
-use Rattle.ds_plan_base.specs.Locks.{IsAllowed, keys_of}
+use Rattle.ds_image.specs.Locks.{IsAllowed, keys_of}
 use Rattle.ds_plan_base.proofs.DirLaws.{dir_keeps, dir_few, dir_allowed}
 use Rattle.ds_tree.specs.CallNames.{HasNames}
 

@@ -24,7 +24,8 @@ use Rattle.ds_names.specs.Answers.{lookup_reply, lookup_known}
 use Rattle.ds_plan_base.specs.Bodies.{dir_of_key}
 use Rattle.ds_plan_base.specs.DirAsks.{DirAsks}
 use Rattle.ds_plan_base.specs.DirSeen.{HasDir, said_found, said_entry, IsFoundIn}
-use Rattle.ds_plan_base.specs.Entries.{entry_named, found_in}
+use Rattle.ds_plan_base.specs.Entries.{found_in}
+use Rattle.ds_image.specs.Objects.{entry_named}
 use Rattle.ds_plan_base.specs.Steps.{settled}
 use Rattle.ds_plan_base.specs.declared.entries.Found.{Found}
 use Rattle.ds_plan_base.proofs.Dirs.{dir_goes, dir_in, object_in}

@@ -52,7 +52,7 @@ impl Plan for Names {
     ghost use Rattle.ds_image.specs.SeenValues.{look_of};
     ghost use Rattle.ds_names.specs.Calls.{answers_of, call_of, geom_of, slot_of};
     ghost use Rattle.ds_names.specs.NamesLaws.{names_keep, names_few};
-    ghost use Rattle.ds_plan_base.specs.Locks.{IsAllowed};
+    ghost use Rattle.ds_image.specs.Locks.{IsAllowed};
 
     ghost geom = { geom_of };
 

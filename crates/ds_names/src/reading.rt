@@ -133,7 +133,7 @@ impl Plan for DirReads {
     ghost use Rattle.ds_image.specs.SeenValues.{look_of};
     ghost use Rattle.ds_names.specs.Answers.{answers_of, call_of};
     ghost use Rattle.ds_names.specs.Laws.{reads_keep, reads_few};
-    ghost use Rattle.ds_plan_base.specs.Locks.{IsAllowed};
+    ghost use Rattle.ds_image.specs.Locks.{IsAllowed};
 
     ghost geom = { λ plan. plan.geom };
 

@@ -32,7 +32,7 @@ use Rattle.ds_plan_base.proofs.MapWalk.{map_goes}
 use Rattle.ds_plan_base.specs.PlanAsks.{PlanAsks, HasMap, HasFull, HasItem}
 use Rattle.ds_plan_base.specs.declared.items.FreeItem.{FreeItem}
 use Rattle.ds_plan_base.specs.Goes.{Goes}
-use Rattle.ds_plan_base.specs.Locks.{to_take, Needs, cluster_tried, map_tried, clear_in}
+use Rattle.ds_image.specs.Locks.{to_take, Needs, cluster_tried, map_tried, clear_in}
 use Rattle.ds_plan_base.proofs.Going.{goes-after}
 use Rattle.ds_plan_base.specs.declared.stops.Stop.{Stop}
 use Rattle.ds_plan_base.proofs.Alike.{some-there}

@@ -39,9 +39,10 @@ use Rattle.ds_plan_base.specs.declared.rooms.FreeRoom.{FreeRoom}
 use Rattle.ds_plan_base.specs.Bodies.{dir_of_key, sub_seen}
 use Rattle.ds_plan_base.specs.DirAsks.{dir_sectors, DirAsks}
 use Rattle.ds_plan_base.specs.DirSeen.{HasDir, HasSub, IsFoundIn, said_found, said_entry}
-use Rattle.ds_plan_base.specs.Entries.{entry_named, named_among, found_at, found_from, found_in}
+use Rattle.ds_plan_base.specs.Entries.{named_among, found_at, found_from, found_in}
+use Rattle.ds_image.specs.Objects.{entry_named}
 use Rattle.ds_plan_base.specs.Goes.{Goes}
-use Rattle.ds_plan_base.specs.Locks.{MayLock, of_key, keys_of, TakesName}
+use Rattle.ds_image.specs.Locks.{MayLock, of_key, keys_of, TakesName}
 use Rattle.ds_plan_base.specs.Steps.{after, or_later}
 use Rattle.ds_plan_base.specs.declared.entries.Found.{Found}
 use Rattle.ds_plan_base.specs.declared.entries.Named.{Named}

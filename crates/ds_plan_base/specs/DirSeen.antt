@@ -17,8 +17,8 @@ use Rattle.ds_image.specs.SeenValues.{SeenValue, has_lock, look_of}
 use Rattle.ds_image.specs.Sound.{StandsFor}
 use Rattle.ds_layout.specs.Places.{place_sector}
 use Rattle.ds_layout.specs.declared.places.Place.TheVariants as places
-use Rattle.ds_plan_base.specs.Entries.{entry_named}
-use Rattle.ds_plan_base.specs.Locks.{SeesBody}
+use Rattle.ds_image.specs.Objects.{entry_named}
+use Rattle.ds_image.specs.Locks.{SeesBody}
 use Rattle.ds_plan_base.specs.declared.entries.Found.{Found}
 use Rattle.ds_tree.specs.Nodes.{FileTree}
 

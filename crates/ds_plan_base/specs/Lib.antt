@@ -5,7 +5,6 @@ pub mod Entries
 pub mod Giving
 pub mod Goes
 pub mod Items
-pub mod Locks
 pub mod Objects
 pub mod PlanAsks
 pub mod Pointers

@@ -22,8 +22,8 @@ use Rattle.ds_plan_base.specs.Items.{IsFreeItem, first_clear}
 use Rattle.ds_plan_base.specs.declared.items.FreeItem.{FreeItem}
 use Rattle.ds_plan_base.specs.DirAsks.{FitsNone, IsKnown}
 use Rattle.ds_plan_base.specs.DirSeen.{HasDir, HasSub}
-use Rattle.ds_plan_base.specs.Entries.{entry_named}
-use Rattle.ds_plan_base.specs.Locks.{MayLock}
+use Rattle.ds_image.specs.Objects.{entry_named}
+use Rattle.ds_image.specs.Locks.{MayLock}
 use Rattle.ds_tree.specs.Nodes.{FileTree}
 use Rattle.ds_tree.specs.declared.calls.CallOf.{CallOf}
 use Rattle.ds_tree.specs.declared.calls.TreeReply.{TreeReply}

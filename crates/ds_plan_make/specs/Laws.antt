@@ -51,7 +51,7 @@ use Rattle.ds_plan_base.specs.Bodies.{dir_of_key}
 use Rattle.ds_plan_base.specs.DirSeen.{HasDir}
 use Rattle.ds_plan_base.specs.Entries.{found_in}
 use Rattle.ds_plan_base.specs.Goes.{Goes}
-use Rattle.ds_plan_base.specs.Locks.{IsAllowed, Needs, NeedsForNew, one_descriptor, one_sub_block, WantsDescriptor, SeesFree, clear_in}
+use Rattle.ds_image.specs.Locks.{IsAllowed, Needs, NeedsForNew, one_descriptor, one_sub_block, WantsDescriptor, SeesFree, clear_in}
 use Rattle.ds_plan_base.specs.Steps.{after}
 use Rattle.ds_plan_base.proofs.Going.{goes-after}
 use Rattle.ds_plan_base.proofs.Known.{rooms-full, room-place}

@@ -32,7 +32,7 @@ use Rattle.ds_plan_make.specs.Objects.{CanBegin}
 use Rattle.ds_plan_base.specs.declared.items.FreeItem.{FreeItem}
 use Rattle.ds_plan_base.specs.Bodies.{body_seen}
 use Rattle.ds_plan_base.specs.Goes.{Goes}
-use Rattle.ds_plan_base.specs.Locks as locks
+use Rattle.ds_image.specs.Locks as locks
 use Rattle.ds_plan_base.specs.Steps.{after}
 use Rattle.ds_plan_base.proofs.BodyWalk.{HasBody, body_goes}
 use Rattle.ds_plan_base.proofs.Dirs.{body_in}

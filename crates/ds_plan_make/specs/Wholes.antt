@@ -6,7 +6,7 @@ use Rattle.ds_base.specs.declared.names.Key.{Key}
 use Rattle.ds_base.specs.declared.names.NodeKind.{NodeKind}
 use Rattle.ds_base.specs.declared.names.NodeKind.TheVariants as kinds
 use Rattle.ds_plan_laws_new.specs.Entering.{make_call}
-use Rattle.ds_plan_base.specs.Locks.{keys_of}
+use Rattle.ds_image.specs.Locks.{keys_of}
 use Rattle.ds_tree.specs.Nodes.{Entries, Dir, File, FileTree, node_of_key}
 use Rattle.ds_tree.specs.Steps.{Does, refuses_new}
 use Rattle.ds_tree.specs.declared.calls.TreeReply.{TreeReply}

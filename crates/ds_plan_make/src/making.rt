@@ -127,7 +127,7 @@ impl Plan for Make {
     ghost use Rattle.ds_image.specs.SeenValues.{look_of};
     ghost use Rattle.ds_plan_make.specs.Answers.{answers_of, call_of};
     ghost use Rattle.ds_plan_make.specs.Laws.{make_keeps, make_few};
-    ghost use Rattle.ds_plan_base.specs.Locks.{IsAllowed};
+    ghost use Rattle.ds_image.specs.Locks.{IsAllowed};
 
     ghost geom = { λ plan. plan.geom };
 

@@ -12,7 +12,7 @@ use Rattle.ds_plan_laws_new.proofs.Bits.{flat-get}
 use Rattle.ds_fd.specs.declared.body.Body.{Body}
 use Rattle.ds_image.specs.Objects.{addresses_in, ptrs_by, ptrs_of, pointed_by, blocks_by, blocks_of}
 use Rattle.ds_image.specs.Parts.{Parts, part_at}
-use Rattle.ds_plan_base.specs.Locks.{block_seen}
+use Rattle.ds_image.specs.Locks.{block_seen}
 use Rattle.ds_tree.specs.Counts.{pointer_blocks}
 
 -- an item of the first n of a list

@@ -39,7 +39,7 @@ use Rattle.ds_plan_base.specs.Bodies.{sub_seen}
 use Rattle.ds_plan_base.specs.DirAsks.{DirAsks, dir_sectors}
 use Rattle.ds_plan_base.specs.DirSeen.{HasDir, HasSub}
 use Rattle.ds_plan_base.specs.Goes.{Goes}
-use Rattle.ds_plan_base.specs.Locks.{MayLock}
+use Rattle.ds_image.specs.Locks.{MayLock}
 use Rattle.ds_plan_base.specs.PlanAsks.{PlanAsks}
 use Rattle.ds_plan_base.proofs.Dirs.{body_in, dir_in}
 use Rattle.ds_plan_base.proofs.Finding.{sub_goes, used_more, used_seen}

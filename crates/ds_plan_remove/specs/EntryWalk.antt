@@ -32,9 +32,10 @@ use Rattle.ds_layout.specs.declared.places.Place.TheVariants as places
 use Rattle.ds_plan_base.specs.Bodies.{body_seen, dir_of_key}
 use Rattle.ds_plan_base.specs.DirAsks.{DirAsks, dir_sectors}
 use Rattle.ds_plan_base.specs.DirSeen.{HasDir, IsFoundIn, said_found, said_entry}
-use Rattle.ds_plan_base.specs.Entries.{entry_named, found_in, entry_by, wanted_entry}
+use Rattle.ds_plan_base.specs.Entries.{found_in, entry_by, wanted_entry}
+use Rattle.ds_image.specs.Objects.{entry_named}
 use Rattle.ds_plan_base.specs.Goes.{Goes}
-use Rattle.ds_plan_base.specs.Locks.{MayLock, of_entry, keys_of, RemovesEntry, SeesEntry}
+use Rattle.ds_image.specs.Locks.{MayLock, of_entry, keys_of, RemovesEntry, SeesEntry}
 use Rattle.ds_plan_base.specs.PlanAsks.{PlanAsks}
 use Rattle.ds_plan_base.specs.Steps.{after}
 use Rattle.ds_plan_base.specs.declared.entries.Found.{Found}

@@ -17,7 +17,7 @@ use Rattle.ds_image.specs.declared.asks.Ask.{Ask}
 use Rattle.ds_plan_base.specs.Bodies.{dir_of_key}
 use Rattle.ds_plan_base.specs.DirSeen.{HasDir, IsFoundIn}
 use Rattle.ds_plan_base.specs.Goes.{Goes}
-use Rattle.ds_plan_base.specs.Locks.{IsAllowed}
+use Rattle.ds_image.specs.Locks.{IsAllowed}
 use Rattle.ds_plan_base.specs.PlanAsks.{PlanAsks, IsPlanChange}
 use Rattle.ds_plan_base.specs.Steps.{after}
 use Rattle.ds_plan_base.specs.declared.entries.Found.{Found}

@@ -33,7 +33,7 @@ use Rattle.ds_plan_base.specs.Bodies.{dir_of_key}
 use Rattle.ds_plan_base.specs.DirSeen.{HasDir, IsFoundIn}
 use Rattle.ds_plan_base.specs.Giving.{Maps, maps_left, with_maps_left, given_up}
 use Rattle.ds_plan_base.specs.Goes.{Goes}
-use Rattle.ds_plan_base.specs.Locks.{MayLock, SeesBody, GivesUp}
+use Rattle.ds_image.specs.Locks.{MayLock, SeesBody, GivesUp}
 use Rattle.ds_plan_base.specs.PlanAsks.{PlanAsks}
 use Rattle.ds_plan_base.specs.declared.entries.Found.{Found}
 use Rattle.ds_plan_base.proofs.Alike.{sub_alike, some-there}

@@ -117,7 +117,7 @@ impl Plan for Remove {
     ghost use Rattle.ds_image.specs.Parts.{Parts};
     ghost use Rattle.ds_image.specs.Readings.{Reads};
     ghost use Rattle.ds_image.specs.SeenValues.{look_of};
-    ghost use Rattle.ds_plan_base.specs.Locks.{IsAllowed};
+    ghost use Rattle.ds_image.specs.Locks.{IsAllowed};
     ghost use Rattle.ds_plan_remove.specs.Answers.{answers_of, call_of};
     ghost use Rattle.ds_plan_remove.specs.Laws.{remove_keeps, remove_few};
 

@@ -7,7 +7,7 @@ use Rattle.ds_image.specs.Planning.{AllKeep, AllAreFew}
 use Rattle.ds_image.specs.Readings.{Reads}
 use Rattle.ds_image.specs.SeenValues.{SeenValue, look_of}
 use Rattle.ds_image.specs.declared.asks.Ask.{Ask}
-use Rattle.ds_plan_base.specs.Locks.{IsAllowed}
+use Rattle.ds_image.specs.Locks.{IsAllowed}
 use Rattle.ds_plan_base.specs.PlanAsks.{PlanAsks}
 use Rattle.ds_plan_base.proofs.PlanLaws.{plan_keeps, plan_allowed, plan_few}
 use Rattle.ds_plan_rename.specs.Answers.{RenameValue, call_of, answers_of}

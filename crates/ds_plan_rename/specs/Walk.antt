@@ -34,10 +34,11 @@ use Rattle.ds_layout.specs.declared.places.Place.TheVariants as places
 use Rattle.ds_plan_base.specs.Bodies.{dir_of_key}
 use Rattle.ds_plan_base.specs.DirAsks.{DirAsks, FitsNone}
 use Rattle.ds_plan_base.specs.DirSeen.{HasDir, IsFoundIn, said_found, said_entry}
-use Rattle.ds_plan_base.specs.Entries.{entry_named, found_in, entry_by, wanted_entry}
+use Rattle.ds_plan_base.specs.Entries.{found_in, entry_by, wanted_entry}
+use Rattle.ds_image.specs.Objects.{entry_named}
 use Rattle.ds_plan_base.specs.Goes.{Goes}
 use Rattle.ds_plan_base.specs.Items.{free_item, number_of, wanted_item}
-use Rattle.ds_plan_base.specs.Locks.{Needs, keys_of, sub_block_for_name}
+use Rattle.ds_image.specs.Locks.{Needs, keys_of, sub_block_for_name}
 use Rattle.ds_plan_base.specs.Objects.{CanGrow}
 use Rattle.ds_plan_base.specs.PlanAsks.{PlanAsks, IsPlanChange, HasItem, HasWhole}
 use Rattle.ds_plan_base.specs.Rooms.{room_in, room_for}

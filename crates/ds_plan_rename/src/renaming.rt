@@ -192,7 +192,7 @@ impl Plan for Rename {
     ghost use Rattle.ds_image.specs.Parts.{Parts};
     ghost use Rattle.ds_image.specs.Readings.{Reads};
     ghost use Rattle.ds_image.specs.SeenValues.{look_of};
-    ghost use Rattle.ds_plan_base.specs.Locks.{IsAllowed};
+    ghost use Rattle.ds_image.specs.Locks.{IsAllowed};
     ghost use Rattle.ds_plan_rename.specs.Answers.{answers_of, call_of};
     ghost use Rattle.ds_plan_rename.specs.Laws.{rename_keeps, rename_few};
 

@@ -26,7 +26,7 @@ use Rattle.ds_layout.specs.Places.{place_sector}
 use Rattle.ds_layout.specs.declared.places.Place.TheVariants as places
 use Rattle.ds_plan_base.specs.Bodies.{part_seen}
 use Rattle.ds_plan_base.specs.Goes.{Goes}
-use Rattle.ds_plan_base.specs.Locks.{block_seen}
+use Rattle.ds_image.specs.Locks.{block_seen}
 use Rattle.ds_plan_base.specs.PlanAsks.{PlanAsks}
 use Rattle.ds_plan_base.proofs.Dirs.{body_in}
 use Rattle.ds_plan_base.proofs.Going.{goes-after, goes-if, goes-part}

@@ -22,7 +22,7 @@ use Rattle.ds_layout.specs.Places.{place_sector}
 use Rattle.ds_layout.specs.declared.places.Place.TheVariants as places
 use Rattle.ds_plan_base.specs.Bodies.{body_seen, body_alive}
 use Rattle.ds_plan_base.specs.Goes.{Goes}
-use Rattle.ds_plan_base.specs.Locks.{SeesBody, of_key}
+use Rattle.ds_image.specs.Locks.{SeesBody, of_key}
 use Rattle.ds_plan_base.specs.PlanAsks.{PlanAsks}
 use Rattle.ds_plan_base.specs.Steps.{after}
 use Rattle.ds_plan_base.proofs.BodyWalk.{HasBody, body_goes}

@@ -30,7 +30,7 @@ use Rattle.ds_image.proofs.Sizes.{body_is}
 use Rattle.ds_layout.specs.Places.{cluster_lock, place_sector}
 use Rattle.ds_layout.specs.declared.places.Place.TheVariants as places
 use Rattle.ds_plan_base.specs.Goes.{Goes}
-use Rattle.ds_plan_base.specs.Locks.{MayGrow, blocks_for_size, pointers_for_size}
+use Rattle.ds_image.specs.Locks.{MayGrow, blocks_for_size, pointers_for_size}
 use Rattle.ds_plan_base.specs.PlanAsks.{PlanAsks, IsPlanChange}
 use Rattle.ds_plan_base.proofs.Dirs.{body_in}
 use Rattle.ds_plan_base.proofs.GivingWalk.{map-in}

@@ -29,7 +29,7 @@ use Rattle.ds_layout.specs.Places.{cluster_lock, place_sector}
 use Rattle.ds_layout.specs.declared.places.Place.TheVariants as places
 use Rattle.ds_plan_base.specs.Goes.{Goes}
 use Rattle.ds_plan_base.specs.Items.{map_seen}
-use Rattle.ds_plan_base.specs.Locks.{to_take, Needs, SeesFree, cluster_tried, map_tried, clear_in}
+use Rattle.ds_image.specs.Locks.{to_take, Needs, SeesFree, cluster_tried, map_tried, clear_in}
 use Rattle.ds_plan_base.specs.PlanAsks.{PlanAsks, HasMap}
 use Rattle.ds_plan_base.proofs.Bitmaps.{tried-within}
 use Rattle.ds_plan_base.proofs.GivingWalk.{map-in}

@@ -11,7 +11,7 @@ use Rattle.ds_image.specs.Readings.{Reads}
 use Rattle.ds_image.specs.SeenValues.{SeenValue, look_of}
 use Rattle.ds_image.specs.declared.asks.Ask.{Ask}
 use Rattle.ds_plan_base.specs.Goes.{Goes}
-use Rattle.ds_plan_base.specs.Locks.{IsAllowed}
+use Rattle.ds_image.specs.Locks.{IsAllowed}
 use Rattle.ds_plan_base.specs.PlanAsks.{PlanAsks, IsPlanChange}
 use Rattle.ds_plan_base.proofs.Going.{goes-after, goes-if}
 use Rattle.ds_plan_base.proofs.PlanLaws.{plan_keeps, plan_allowed, plan_few}

@@ -8,7 +8,7 @@ use Rattle.ds_fd.specs.declared.body.Body.{Body}
 use Rattle.ds_image.specs.Objects.{addresses_in}
 use Rattle.ds_image.specs.Parts.{Parts, part_at}
 use Rattle.ds_image.proofs.Places.{at-append}
-use Rattle.ds_plan_base.specs.Locks.{block_seen}
+use Rattle.ds_image.specs.Locks.{block_seen}
 use Rattle.ds_space.specs.Blocks.{pointers_in, pointers_from}
 use Rattle.ds_space.specs.PagesWritten.{dropped-at}
 use Rattle.ds_tree.specs.Counts.{pointer_blocks}

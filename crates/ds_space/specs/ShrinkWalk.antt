@@ -36,7 +36,7 @@ use Rattle.ds_layout.specs.Places.{cluster_lock, place_sector}
 use Rattle.ds_layout.specs.declared.places.Place.TheVariants as places
 use Rattle.ds_plan_base.specs.Giving.{Maps, map_sectors, maps_left, with_maps_left, given_up}
 use Rattle.ds_plan_base.specs.Goes.{Goes}
-use Rattle.ds_plan_base.specs.Locks.{GivesUp, block_past, pointer_past}
+use Rattle.ds_image.specs.Locks.{GivesUp, block_past, pointer_past}
 use Rattle.ds_plan_base.specs.PlanAsks.{PlanAsks, IsPlanChange}
 use Rattle.ds_plan_base.proofs.Cleared.{left-clears, ClearsKind}
 use Rattle.ds_plan_base.proofs.Dirs.{body_in}

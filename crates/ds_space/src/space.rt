@@ -89,7 +89,7 @@ impl Plan for Space {
     ghost use Rattle.ds_image.specs.Parts.{Parts};
     ghost use Rattle.ds_image.specs.Readings.{Reads};
     ghost use Rattle.ds_image.specs.SeenValues.{look_of};
-    ghost use Rattle.ds_plan_base.specs.Locks.{IsAllowed};
+    ghost use Rattle.ds_image.specs.Locks.{IsAllowed};
     ghost use Rattle.ds_space.specs.Answers.{answers_of, call_of};
     ghost use Rattle.ds_space.specs.Laws.{space_keeps, space_few};
 
