@@ -24,7 +24,7 @@ use Rattle.ds_image.proofs.Places.{at-append}
 use Rattle.ds_image.proofs.Sizes.{body_is, part_within}
 use Rattle.ds_check.specs.declared.findings.Find.{Find}
 use Rattle.ds_check.specs.declared.findings.Find.TheVariants.{Address, Room}
-use Rattle.ds_check.specs.Objects.{is_outside, is_bad_block, pointed_at, is_bad_address, past_last, first_past, is_first_past, most_addresses, address_finds, misaddressed, room_finds, unroomed, addresses_stage}
+use Rattle.ds_check.specs.Addresses.{is_outside, is_bad_block, pointed_at, is_bad_address, past_last, first_past, is_first_past, most_addresses, address_finds, misaddressed, room_finds, unroomed, addresses_stage}
 use Rattle.ds_check.specs.Rows.{find_if, row}
 use Rattle.ds_check.proofs.CleanMetadata.{some-there, not-false}
 use Rattle.ds_check.proofs.NoFinds.{both-none, not-found, row-none}

@@ -24,8 +24,10 @@ use Rattle.ds_image.proofs.Places.{marked-within}
 use Rattle.ds_image.proofs.SoundParts.{list-is}
 use Rattle.ds_check.specs.declared.findings.Find.{Find}
 use Rattle.ds_check.specs.declared.findings.Find.TheVariants.{Marked, Unmarked}
-use Rattle.ds_check.specs.Lost.{times}
-use Rattle.ds_check.specs.Objects.{listed_by, uses_of, twice, shared_items, sharing_stage, is_in_use, is_marked, mismarked, marking_stage}
+use Rattle.ds_check.specs.Unreached.{times}
+use Rattle.ds_check.specs.Uses.{listed_by, uses_of}
+use Rattle.ds_check.specs.Sharing.{twice, shared_items, sharing_stage}
+use Rattle.ds_check.specs.Marking.{is_in_use, is_marked, mismarked, marking_stage}
 use Rattle.ds_check.specs.Rows.{find_if, row}
 use Rattle.ds_check.proofs.NoBad.{each_kind}
 use Rattle.ds_check.proofs.NoFinds.{both-none, not-found, row-none}

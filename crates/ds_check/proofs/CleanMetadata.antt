@@ -14,7 +14,7 @@ use Rattle.ds_image.specs.Parts.{Parts, part_at, maps_of, AllSpelled}
 use Rattle.ds_image.specs.Readings.{Reads}
 use Rattle.ds_image.specs.Rooted.{HasRoot}
 use Rattle.ds_check.specs.declared.findings.Find.TheVariants.{Root}
-use Rattle.ds_check.specs.Objects.{bitmap_form, body_form, unread, is_dir, is_root, root_finds, metadata_stage}
+use Rattle.ds_check.specs.Metadata.{bitmap_form, body_form, unread, is_dir, is_root, root_finds, metadata_stage}
 use Rattle.ds_check.specs.Rows.{row, row_of_kinds}
 use Rattle.ds_check.proofs.NoBad.{each_kind}
 use Rattle.ds_check.proofs.NoFinds.{both-none, not-found, row-none}

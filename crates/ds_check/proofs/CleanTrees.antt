@@ -20,7 +20,11 @@ use Rattle.ds_image.proofs.SoundParts.{sound-from, all-from_at}
 use Rattle.ds_image.proofs.TreesThatStand.{tree-from_rooted}
 use Rattle.ds_check.specs.Checks.{StandsForTree, VolumeStands}
 use Rattle.ds_check.specs.Findings.{AreLost, AreFoundOrLost, AreFoundIn, found_in}
-use Rattle.ds_check.specs.Objects.{metadata_stage, addresses_stage, sharing_stage, marking_stage, naming_stage}
+use Rattle.ds_check.specs.Metadata.{metadata_stage}
+use Rattle.ds_check.specs.Addresses.{addresses_stage}
+use Rattle.ds_check.specs.Sharing.{sharing_stage}
+use Rattle.ds_check.specs.Marking.{marking_stage}
+use Rattle.ds_check.specs.Names.{naming_stage}
 use Rattle.ds_check.specs.Rows.{first_found}
 use Rattle.ds_check.specs.Volumes.{AreOfVolume}
 use Rattle.ds_check.specs.declared.findings.Find.{Find}

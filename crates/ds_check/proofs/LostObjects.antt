@@ -19,8 +19,8 @@ use Rattle.ds_image.proofs.ReachedObjects.{used-within}
 use Rattle.ds_check.specs.declared.findings.Find.{Find}
 use Rattle.ds_check.specs.declared.findings.Find.TheVariants.{Lost}
 use Rattle.ds_check.specs.Findings.{AreLost}
-use Rattle.ds_check.specs.Lost.{is_unreached, unreached_at, AreNamers}
-use Rattle.ds_check.specs.Objects.{naming_stage}
+use Rattle.ds_check.specs.Unreached.{is_unreached, unreached_at, AreNamers}
+use Rattle.ds_check.specs.Names.{naming_stage}
 use Rattle.ds_check.specs.Rows.{find_if, row}
 use Rattle.ds_check.proofs.NamedOnce.{namers-parents}
 

@@ -18,7 +18,7 @@ use Rattle.ds_check.specs.Checks.{AreFindingsOf, IsCheckFault, IsCheckAnswer, Or
 use Rattle.ds_check.specs.Controls.{Controls, owners_of, SpellsId, SpellsOwner, SpellsCluster, SpellsPending, ReadsControls}
 use Rattle.ds_check.specs.Findings.{AreLost, AreFoundOrLost, found_in, AreFoundIn, AreFoundBehind, AreFoundFrom, AreFoundInFront, AreFindings}
 use Rattle.ds_check.specs.Journals.{journals_stage}
-use Rattle.ds_check.specs.Marks.{marks_stage}
+use Rattle.ds_check.specs.Headers.{headers_stage}
 use Rattle.ds_check.specs.Rows.{first_found}
 use Rattle.ds_check.specs.Volumes.{SpellsVolume, AreOfVolume, IsBadImage}
 use Rattle.ds_check.specs.declared.checking.CheckFault.{CheckFault}
@@ -56,7 +56,7 @@ controls-once g sectors c d r s =
 
 front-once : (g : Geom) (id : List ℕ) (sectors : List Sector) (xs ys : List Find) → AreFoundInFront g id sectors xs → AreFoundInFront g id sectors ys → xs ≡ ys
 front-once g id sectors xs ys a b =
-    a.found ∙ ap (λ (c : Controls). first_found (marks_stage g id c ∷ journals_stage g c ∷ [])) (controls-once g sectors a.controls b.controls a.reads b.reads) ∙ sym b.found
+    a.found ∙ ap (λ (c : Controls). first_found (headers_stage g id c ∷ journals_stage g c ∷ [])) (controls-once g sectors a.controls b.controls a.reads b.reads) ∙ sym b.found
 
 -- the lost objects are one rising list
 lost-once : (p : Parts) (xs ys : List Find) → AreLost p xs → AreLost p ys → xs ≡ ys

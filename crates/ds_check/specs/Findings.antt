@@ -12,8 +12,12 @@ use Rattle.ds_check.specs.declared.findings.Find.{Find}
 use Rattle.ds_check.specs.declared.findings.Find.TheVariants.{Lost}
 use Rattle.ds_check.specs.Controls.{Controls, ReadsControls}
 use Rattle.ds_check.specs.Journals.{journals_stage}
-use Rattle.ds_check.specs.Marks.{marks_stage}
-use Rattle.ds_check.specs.Objects.{metadata_stage, addresses_stage, sharing_stage, marking_stage, naming_stage}
+use Rattle.ds_check.specs.Headers.{headers_stage}
+use Rattle.ds_check.specs.Metadata.{metadata_stage}
+use Rattle.ds_check.specs.Addresses.{addresses_stage}
+use Rattle.ds_check.specs.Sharing.{sharing_stage}
+use Rattle.ds_check.specs.Marking.{marking_stage}
+use Rattle.ds_check.specs.Names.{naming_stage}
 use Rattle.ds_check.specs.Rows.{first_found}
 
 -- an object that is in use, and isn't reached from the root
@@ -59,7 +63,7 @@ AreFoundFrom g sectors (first ∷ more) finds = finds ≡ first ∷ more
 pub record AreFoundInFront (g : Geom) (id : List ℕ) (sectors : List Sector) (finds : List Find) : Type 0 where
   pub controls : Controls
   pub reads : ReadsControls g sectors controls
-  pub found : finds ≡ first_found (marks_stage g id controls ∷ journals_stage g controls ∷ [])
+  pub found : finds ≡ first_found (headers_stage g id controls ∷ journals_stage g controls ∷ [])
 
 -- the findings of a volume with this id, this geometry and these sectors
 pub record AreFindings (g : Geom) (id : List ℕ) (sectors : List Sector) (finds : List Find) : Type 0 where
