@@ -20,8 +20,8 @@ use Rattle.ds_image.specs.Objects.{addresses_in, subs_by, ptrs_by, blocks_by, ta
 use Rattle.ds_image.specs.Parts.{Parts, part_at}
 use Rattle.ds_image.specs.Readings.{Reads}
 use Rattle.ds_image.specs.Sound.{AreZero}
-use Rattle.ds_image.proofs.Places.{at-append}
-use Rattle.ds_image.proofs.Sizes.{body_is, part_within}
+use Rattle.ds_image.proofs.Spelling.Places.{at-append}
+use Rattle.ds_image.proofs.Spelling.Sizes.{body_is, part_within}
 use Rattle.ds_check.specs.declared.findings.Find.{Find}
 use Rattle.ds_check.specs.declared.findings.Find.TheVariants.{Address, Room}
 use Rattle.ds_check.specs.Addresses.{is_outside, is_bad_block, pointed_at, is_bad_address, past_last, first_past, is_first_past, most_addresses, address_finds, misaddressed, room_finds, unroomed, addresses_stage}

@@ -18,10 +18,10 @@ use Rattle.ds_image.specs.Readings.{Reads}
 use Rattle.ds_image.specs.SoundObjects.{IsMarked}
 use Rattle.ds_image.specs.Users.{users, uses_by, AreUsedOnce}
 use Rattle.ds_image.specs.Users as usage
-use Rattle.ds_image.proofs.Listed.{bits_length}
-use Rattle.ds_image.proofs.OwningUsers.{owns-from_users}
-use Rattle.ds_image.proofs.Places.{marked-within}
-use Rattle.ds_image.proofs.SoundParts.{list-is}
+use Rattle.ds_image.proofs.Ownership.Listed.{bits_length}
+use Rattle.ds_image.proofs.Ownership.OwningUsers.{owns-from_users}
+use Rattle.ds_image.proofs.Spelling.Places.{marked-within}
+use Rattle.ds_image.proofs.Spelling.SoundParts.{list-is}
 use Rattle.ds_check.specs.declared.findings.Find.{Find}
 use Rattle.ds_check.specs.declared.findings.Find.TheVariants.{Marked, Unmarked}
 use Rattle.ds_check.specs.Unreached.{times}

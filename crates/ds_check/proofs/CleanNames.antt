@@ -26,10 +26,10 @@ use Rattle.ds_image.specs.Sound.{IsNamedRight, rooms_used_by}
 use Rattle.ds_image.specs.SoundObjects.{AreNamesApart}
 use Rattle.ds_image.specs.Users.{users, AreUsedOnce}
 use Rattle.ds_image.specs.Users as usage
-use Rattle.ds_image.proofs.NamesApart.{apart-none}
-use Rattle.ds_image.proofs.OwningUsers.{owns-from_users}
-use Rattle.ds_image.proofs.RootedTrees.{named_bit}
-use Rattle.ds_image.proofs.ReachedObjects.{used-within}
+use Rattle.ds_image.proofs.FileTrees.NamesApart.{apart-none}
+use Rattle.ds_image.proofs.Ownership.OwningUsers.{owns-from_users}
+use Rattle.ds_image.proofs.FileTrees.RootedTrees.{named_bit}
+use Rattle.ds_image.proofs.Parenthood.ReachedObjects.{used-within}
 use Rattle.ds_check.specs.declared.findings.Find.TheVariants as finds
 use Rattle.ds_check.specs.Unreached.{times}
 use Rattle.ds_check.specs.Names.{misnamed_at, named_in, all_named, names_of, wanted_names, naming_stage}

@@ -16,8 +16,8 @@ use Rattle.ds_image.specs.ReadTrees.{StandsForNone}
 use Rattle.ds_image.specs.Rooted.{IsRooted}
 use Rattle.ds_image.specs.Sound.{IsSound, IsNamedRight, rooms_used_by, StandsFor}
 use Rattle.ds_image.specs.SoundObjects.{IsSoundObject}
-use Rattle.ds_image.proofs.SoundParts.{sound-from, all-from_at}
-use Rattle.ds_image.proofs.TreesThatStand.{tree-from_rooted}
+use Rattle.ds_image.proofs.Spelling.SoundParts.{sound-from, all-from_at}
+use Rattle.ds_image.proofs.FileTrees.TreesThatStand.{tree-from_rooted}
 use Rattle.ds_check.specs.Checks.{StandsForTree, VolumeStands}
 use Rattle.ds_check.specs.Findings.{AreLost, AreFoundOrLost, AreFoundIn, found_in}
 use Rattle.ds_check.specs.Metadata.{metadata_stage}

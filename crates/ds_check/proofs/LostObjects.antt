@@ -14,8 +14,8 @@ use Rattle.ds_base.specs.declared.geometry.Kind.TheVariants.{Fd}
 use Rattle.ds_image.specs.Objects.{is_used, tree_of}
 use Rattle.ds_image.specs.Parents.{AreReached}
 use Rattle.ds_image.specs.Parts.{Parts, part_at}
-use Rattle.ds_image.proofs.ReachedParents.{leads-iff_reached}
-use Rattle.ds_image.proofs.ReachedObjects.{used-within}
+use Rattle.ds_image.proofs.Parenthood.ReachedParents.{leads-iff_reached}
+use Rattle.ds_image.proofs.Parenthood.ReachedObjects.{used-within}
 use Rattle.ds_check.specs.declared.findings.Find.{Find}
 use Rattle.ds_check.specs.declared.findings.Find.TheVariants.{Lost}
 use Rattle.ds_check.specs.Findings.{AreLost}

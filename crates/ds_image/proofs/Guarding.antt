@@ -19,7 +19,7 @@ use Rattle.ds_image.specs.Looks.{Look, AreBlocks}
 use Rattle.ds_image.specs.Metadata.{IsMetadata, is_metadata}
 use Rattle.ds_image.specs.Parts.{Parts, part_at}
 use Rattle.ds_image.specs.Readings.{Reads}
-use Rattle.ds_image.proofs.Readings.{parts_there}
+use Rattle.ds_image.proofs.Spelling.Readings.{parts_there}
 
 -- whether a descriptor of the kind lists the item
 abbrev lists_item : NodeKind → Parts → ℕ → ℕ → Bool

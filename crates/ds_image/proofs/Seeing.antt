@@ -11,7 +11,7 @@ use Rattle.ds_image.specs.Pending.{Pair}
 use Rattle.ds_image.specs.Parts.{Parts}
 use Rattle.ds_image.specs.Readings.{Reads}
 use Rattle.ds_image.specs.SeenValues.{SeenValue, look_of, sector_in, with_sector, IsSeen}
-use Rattle.ds_image.proofs.Readings.{parts_there}
+use Rattle.ds_image.proofs.Spelling.Readings.{parts_there}
 
 choice : {X : Type 0} (test : Bool) (x : X) (rest others : Option X)
     → (if test then Some x else option_or rest others) ≡ option_or (if test then Some x else rest) others

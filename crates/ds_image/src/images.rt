@@ -73,7 +73,7 @@ impl<'a, S: Store> Image<'a, S> {
     }
 
     /// The sector of a body, a bitmap, a sub-block or a pointer block; `None` where the sector is none of these.
-    #[tactic(auto, using(crate::proofs::Fronts::metadata_within))]
+    #[tactic(auto, using(crate::proofs::Spelling::Fronts::metadata_within))]
     pub fn sector(&self, at: SectorNo) -> Option<Sector>
         ensures { MatchOption result (¬ IsMetadata self.now.geom at)
             (λ s. IsMetadata self.now.geom at × (slice_get self.now.sectors at ≡ Some s)) }
@@ -95,7 +95,7 @@ impl<'a, S: Store> Image<'a, S> {
     }
 
     /// The sector of a body, a bitmap, a sub-block or a pointer block, by its place.
-    #[tactic(auto, using(crate::proofs::Fronts::metadata_within))]
+    #[tactic(auto, using(crate::proofs::Spelling::Fronts::metadata_within))]
     pub(crate) fn sector_at(&self, place: &Place) -> Sector
         requires inside { IsPlace self.now.geom place.now }
         requires metadata { is_metadata place.now ≡ true }

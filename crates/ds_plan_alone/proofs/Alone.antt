@@ -17,7 +17,7 @@ use Rattle.ds_image.specs.SeenValues.{SeenValue, IsSeen, has_lock, look_of, sect
 use Rattle.ds_image.specs.Sound.{StandsFor}
 use Rattle.ds_image.specs.declared.asks.Ask.{Ask}
 use Rattle.ds_image.specs.declared.asks.Ask.TheVariants.{Lock, Read, Odd, Worn, Done, Change}
-use Rattle.ds_image.proofs.Sizes.{part_within}
+use Rattle.ds_image.proofs.Spelling.Sizes.{part_within}
 use Rattle.ds_image.proofs.Reaching.{all-few, all-fresh}
 use Rattle.ds_image.specs.Objects.{node_by}
 use Rattle.ds_image.proofs.Seeing.{sector_in-append, seen_read}

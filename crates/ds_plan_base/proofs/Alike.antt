@@ -14,7 +14,7 @@ use Rattle.ds_fd.specs.declared.body.Body.{Body}
 use Rattle.ds_image.specs.Looks.{Look}
 use Rattle.ds_image.specs.Parts.{Parts, part_at}
 use Rattle.ds_image.specs.Readings.{Reads, SpellsBody, SpellsSub, SpellsPtr}
-use Rattle.ds_image.proofs.Decoded.{decoded_same, numbered_at, spelled_at}
+use Rattle.ds_image.proofs.Spelling.Decoded.{decoded_same, numbered_at, spelled_at}
 use Rattle.ds_layout.specs.Places.{place_sector}
 use Rattle.ds_layout.specs.declared.places.Place.TheVariants as places
 use Rattle.ds_plan_base.specs.Bodies.{part_seen}

@@ -13,7 +13,7 @@ use Rattle.ds_bitmap.specs.Bits.{Bitmap, IsBits, bits_bytes, AllUsed, IsFirstFre
 use Rattle.ds_image.specs.Looks.{Look}
 use Rattle.ds_image.specs.Parts.{Parts, part_at, maps_of}
 use Rattle.ds_image.specs.Readings.{Reads, SpellsBits}
-use Rattle.ds_image.proofs.Decoded.{decoded_same, spelled_at}
+use Rattle.ds_image.proofs.Spelling.Decoded.{decoded_same, spelled_at}
 use Rattle.ds_layout.specs.Places.{place_sector}
 use Rattle.ds_layout.specs.declared.places.Place.TheVariants as places
 use Rattle.ds_image.specs.SeenValues.{SeenValue}

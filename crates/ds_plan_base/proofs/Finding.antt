@@ -31,10 +31,10 @@ use Rattle.ds_image.specs.SeenValues.{SeenValue, look_of}
 use Rattle.ds_image.specs.Sound.{StandsFor, sub_lists}
 use Rattle.ds_image.specs.declared.asks.Ask.{Ask}
 use Rattle.ds_image.specs.declared.asks.Ask.TheVariants as asks
-use Rattle.ds_image.proofs.EntryNames.{pairs}
+use Rattle.ds_image.proofs.FileTrees.EntryNames.{pairs}
 use Rattle.ds_image.proofs.Guarding.{lister_found}
-use Rattle.ds_image.proofs.Listed.{sub_listed_within}
-use Rattle.ds_image.proofs.SoundParts.{list-is}
+use Rattle.ds_image.proofs.Ownership.Listed.{sub_listed_within}
+use Rattle.ds_image.proofs.Spelling.SoundParts.{list-is}
 use Rattle.ds_layout.specs.Places.{place_sector, cluster_lock}
 use Rattle.ds_layout.specs.declared.places.Place.TheVariants as places
 use Rattle.ds_plan_base.specs.Bodies.{part_seen, sub_seen}

@@ -17,7 +17,7 @@ use Rattle.ds_image.specs.Objects.{subs_by, subs_of}
 use Rattle.ds_image.specs.Parts.{Parts, part_at}
 use Rattle.ds_image.specs.Readings.{Reads}
 use Rattle.ds_image.specs.SeenValues.{SeenValue, has_lock, look_of}
-use Rattle.ds_image.proofs.Sizes.{body_is}
+use Rattle.ds_image.proofs.Spelling.Sizes.{body_is}
 use Rattle.ds_layout.specs.Places.{place_sector}
 use Rattle.ds_layout.specs.declared.places.Place.TheVariants as places
 use Rattle.ds_plan_base.proofs.Limits.{after-ok, part-known, if-ok}

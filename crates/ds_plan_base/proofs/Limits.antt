@@ -22,8 +22,8 @@ use Rattle.ds_image.specs.Objects.{subs_by, subs_of}
 use Rattle.ds_image.specs.Parts.{Parts, part_at, maps_of}
 use Rattle.ds_image.specs.Readings.{Reads, SpellsBits}
 use Rattle.ds_image.specs.SeenValues.{SeenValue, has_lock, look_of}
-use Rattle.ds_image.proofs.Decoded.{decoded_same}
-use Rattle.ds_image.proofs.Sizes.{body_is, part_within}
+use Rattle.ds_image.proofs.Spelling.Decoded.{decoded_same}
+use Rattle.ds_image.proofs.Spelling.Sizes.{body_is, part_within}
 use Rattle.ds_layout.specs.Places.{cluster_lock, place_sector}
 use Rattle.ds_layout.specs.declared.places.Place.TheVariants as places
 use Rattle.ds_plan_base.proofs.Bitmaps.{tried-within}

@@ -22,7 +22,7 @@ use Rattle.ds_image.specs.Sound.{StandsFor, IsNamedRight}
 use Rattle.ds_image.specs.SoundObjects.{AreNamesApart}
 use Rattle.ds_image.specs.declared.asks.Ask.{Ask}
 use Rattle.ds_image.specs.declared.asks.Ask.TheVariants as asks
-use Rattle.ds_image.proofs.EntryNames.{pairs, find-some, apart-index, get-entries}
+use Rattle.ds_image.proofs.FileTrees.EntryNames.{pairs, find-some, apart-index, get-entries}
 use Rattle.ds_plan_dirs.specs.Answers.{list_known}
 use Rattle.ds_plan_dirs.proofs.Lookups.{dir_named}
 use Rattle.ds_plan_dirs.specs.Pages.{name_cmp, name_key, entries_past, keys_by_name, page_names, page_of}

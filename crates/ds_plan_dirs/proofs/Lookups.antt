@@ -19,7 +19,7 @@ use Rattle.ds_image.specs.SeenValues.{SeenValue, look_of}
 use Rattle.ds_image.specs.Sound.{StandsFor, IsNamedRight}
 use Rattle.ds_image.specs.declared.asks.Ask.{Ask}
 use Rattle.ds_image.specs.declared.asks.Ask.TheVariants as asks
-use Rattle.ds_image.proofs.EntryNames.{get-entries}
+use Rattle.ds_image.proofs.FileTrees.EntryNames.{get-entries}
 use Rattle.ds_plan_dirs.specs.Answers.{lookup_reply, lookup_known}
 use Rattle.ds_plan_base.specs.Bodies.{dir_of_key}
 use Rattle.ds_plan_base.proofs.DirAsks.{DirAsks}

@@ -17,8 +17,8 @@ use Rattle.ds_image.specs.Owned.{ClearsMarks}
 use Rattle.ds_image.specs.Parts.{Parts, part_at, AllSpelled, maps_of, bits_in}
 use Rattle.ds_image.specs.Readings.{Reads}
 use Rattle.ds_image.specs.Sound.{IsSound}
-use Rattle.ds_image.proofs.Sizes.{part_within}
-use Rattle.ds_image.proofs.SoundParts.{all-at}
+use Rattle.ds_image.proofs.Spelling.Sizes.{part_within}
+use Rattle.ds_image.proofs.Spelling.SoundParts.{all-at}
 use Rattle.ds_plan_laws_new.specs.Entering.{subs_in}
 use Rattle.ds_plan_laws_new.specs.Puts.{IsPut}
 use Rattle.ds_plan_laws_new.proofs.Listed.{listed-by, listed-in, part-put}

@@ -16,8 +16,8 @@ use Rattle.ds_image.specs.Owned.{ClearsMarks}
 use Rattle.ds_image.specs.Owns.{bit}
 use Rattle.ds_image.specs.Parts.{Parts, part_at, AllSpelled, maps_of, bits_in}
 use Rattle.ds_image.specs.Readings.{Reads}
-use Rattle.ds_image.proofs.Listed.{bits_length}
-use Rattle.ds_image.proofs.Places.{marked-within}
+use Rattle.ds_image.proofs.Ownership.Listed.{bits_length}
+use Rattle.ds_image.proofs.Spelling.Places.{marked-within}
 use Rattle.ds_plan_laws_new.specs.Changed.{with_maps}
 use Rattle.ds_plan_laws_new.proofs.Bits.{all-put}
 use Rattle.ds_plan_laws_new.proofs.Frames.{reads-map}

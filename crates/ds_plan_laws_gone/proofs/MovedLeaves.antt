@@ -23,8 +23,8 @@ use Rattle.ds_image.specs.Objects.{object_of, node_by, entries_of, tree_of}
 use Rattle.ds_image.specs.Parts.{Parts}
 use Rattle.ds_image.specs.Readings.{Reads}
 use Rattle.ds_image.specs.Sound.{IsSound, IsNamedRight}
-use Rattle.ds_image.proofs.DirNodes.{dir-rules}
-use Rattle.ds_image.proofs.TreeParts.{object-is}
+use Rattle.ds_image.proofs.FileTrees.DirNodes.{dir-rules}
+use Rattle.ds_image.proofs.FileTrees.TreeParts.{object-is}
 use Rattle.ds_plan_laws_new.specs.Entering.{subs_in}
 use Rattle.ds_plan_laws_new.specs.Making.{Leaves}
 use Rattle.ds_plan_laws_new.proofs.EnteredTrees.{dir-object}

@@ -4,7 +4,7 @@ use Rattle.std.specs.Prelude.{Contains}
 use Rattle.std.proofs.lemmas.Bool.{cases_eq, false≢true}
 use Rattle.ds_image.specs.Owned.{ClearsMarks}
 use Rattle.ds_image.specs.Owns.{Owns, IsAt, list_of}
-use Rattle.ds_image.proofs.Places.{Contains-from_at, at-from_Contains}
+use Rattle.ds_image.proofs.Spelling.Places.{Contains-from_at, at-from_Contains}
 use Rattle.ds_plan_laws_gone.specs.Replaced.{ReplacesItems, ReplacesMarks, CanReplace, BitsReplaced}
 
 -- whether an item stands in a list

@@ -31,8 +31,8 @@ use Rattle.ds_image.specs.Parts.{Parts, part_at}
 use Rattle.ds_image.specs.Pending.{Pair}
 use Rattle.ds_image.specs.Readings.{Reads}
 use Rattle.ds_image.specs.Sound.{StandsFor, IsSound, sub_lists}
-use Rattle.ds_image.proofs.LaidOver.{whole-laid_over}
-use Rattle.ds_image.proofs.Sizes.{body_is}
+use Rattle.ds_image.proofs.Journaling.LaidOver.{whole-laid_over}
+use Rattle.ds_image.proofs.Spelling.Sizes.{body_is}
 use Rattle.ds_plan_laws_new.specs.Entering.{subs_in, FillsRoom}
 use Rattle.ds_plan_laws_new.specs.Guarded.{GuardedBy}
 use Rattle.ds_plan_laws_new.specs.Making.{Leaves}

@@ -35,9 +35,9 @@ use Rattle.ds_image.specs.Pending.{Pair}
 use Rattle.ds_image.specs.Readings.{Reads}
 use Rattle.ds_image.specs.Sound.{StandsFor, IsSound, sub_lists}
 use Rattle.ds_image.specs.SoundObjects.{AreNamesApart}
-use Rattle.ds_image.proofs.LaidOver.{whole-laid_over}
-use Rattle.ds_image.proofs.Places.{at-append_right}
-use Rattle.ds_image.proofs.SoundParts.{objects-of}
+use Rattle.ds_image.proofs.Journaling.LaidOver.{whole-laid_over}
+use Rattle.ds_image.proofs.Spelling.Places.{at-append_right}
+use Rattle.ds_image.proofs.Spelling.SoundParts.{objects-of}
 use Rattle.ds_plan_laws_new.specs.Entering.{subs_in}
 use Rattle.ds_plan_laws_new.specs.Guarded.{GuardedBy}
 use Rattle.ds_plan_laws_new.specs.Making.{Leaves}

@@ -20,7 +20,7 @@ use Rattle.ds_image.specs.Parts.{Parts}
 use Rattle.ds_image.specs.Pending.{Pair}
 use Rattle.ds_image.specs.Readings.{Reads}
 use Rattle.ds_image.specs.Sound.{StandsFor}
-use Rattle.ds_image.proofs.LaidOver.{length-laid_over, laid_over-append, whole-laid_over}
+use Rattle.ds_image.proofs.Journaling.LaidOver.{length-laid_over, laid_over-append, whole-laid_over}
 use Rattle.ds_plan_laws_new.specs.Entering.{subs_in}
 use Rattle.ds_plan_laws_new.specs.Making.{Leaves}
 use Rattle.ds_plan_laws_new.proofs.EnteredTrees.{dir-object}

@@ -29,10 +29,10 @@ use Rattle.ds_image.specs.Parts.{Parts, part_at}
 use Rattle.ds_image.specs.Pending.{Pair}
 use Rattle.ds_image.specs.Readings.{Reads}
 use Rattle.ds_image.specs.Sound.{StandsFor, IsSound, IsNamedRight, sub_lists}
-use Rattle.ds_image.proofs.LaidOver.{whole-laid_over}
-use Rattle.ds_image.proofs.Sizes.{part_within}
-use Rattle.ds_image.proofs.SoundParts.{objects-of}
-use Rattle.ds_image.proofs.TreeParts.{object-is}
+use Rattle.ds_image.proofs.Journaling.LaidOver.{whole-laid_over}
+use Rattle.ds_image.proofs.Spelling.Sizes.{part_within}
+use Rattle.ds_image.proofs.Spelling.SoundParts.{objects-of}
+use Rattle.ds_image.proofs.FileTrees.TreeParts.{object-is}
 use Rattle.ds_plan_laws_new.specs.Entering.{subs_in}
 use Rattle.ds_plan_laws_new.specs.Guarded.{GuardedBy}
 use Rattle.ds_plan_laws_new.specs.Making.{Leaves}

@@ -27,11 +27,11 @@ use Rattle.ds_ptr.specs.declared.ptr_block.PtrBlock.{PtrBlock}
 use Rattle.ds_image.specs.Looks.{Look, HasBytes}
 use Rattle.ds_image.specs.Parts.{Parts, part_at, maps_of}
 use Rattle.ds_image.specs.Readings.{SpellsBody, SpellsBits, SpellsSub, SpellsPtr, IsReading, Reads}
-use Rattle.ds_image.proofs.FreshLists.{decoded_one}
-use Rattle.ds_image.proofs.LaidOver.{slice_get-set}
-use Rattle.ds_image.proofs.SoundParts.{each_kind}
-use Rattle.ds_image.proofs.FreshVolume.{same_bytes}
-use Rattle.ds_image.proofs.Readings.{few_clusters}
+use Rattle.ds_image.proofs.NewVolumes.FreshLists.{decoded_one}
+use Rattle.ds_image.proofs.Journaling.LaidOver.{slice_get-set}
+use Rattle.ds_image.proofs.Spelling.SoundParts.{each_kind}
+use Rattle.ds_image.proofs.NewVolumes.FreshVolume.{same_bytes}
+use Rattle.ds_image.proofs.Spelling.Readings.{few_clusters}
 use Rattle.ds_plan_laws_new.specs.Changed.{with_maps}
 
 -- Places of a list after a write

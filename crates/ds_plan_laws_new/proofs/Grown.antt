@@ -20,10 +20,10 @@ use Rattle.ds_image.specs.Owns.{Owns, IsAt, list_of}
 use Rattle.ds_image.specs.Parts.{Parts, part_at, AllSpelled, maps_of, bits_in}
 use Rattle.ds_image.specs.Readings.{Reads}
 use Rattle.ds_image.specs.Sound.{IsSound, sub_lists}
-use Rattle.ds_image.proofs.Listed.{bits_length}
-use Rattle.ds_image.proofs.Owning.{owns-alike, owns-grown}
-use Rattle.ds_image.proofs.Sizes.{body_is}
-use Rattle.ds_image.proofs.SoundParts.{each_kind, list-is, objects-of}
+use Rattle.ds_image.proofs.Ownership.Listed.{bits_length}
+use Rattle.ds_image.proofs.Ownership.Owning.{owns-alike, owns-grown}
+use Rattle.ds_image.proofs.Spelling.Sizes.{body_is}
+use Rattle.ds_image.proofs.Spelling.SoundParts.{each_kind, list-is, objects-of}
 use Rattle.ds_plan_laws_new.specs.Beginning.{SetsBit, Begins}
 use Rattle.ds_plan_laws_new.specs.Entering.{subs_in, LacksName, AddsRooms}
 use Rattle.ds_plan_laws_new.specs.Puts.{IsPut}

@@ -17,7 +17,7 @@ use Rattle.ds_fd.specs.declared.body.Body.{Body}
 use Rattle.ds_layout.specs.Places.{cluster_lock, place_sector}
 use Rattle.ds_layout.specs.declared.places.Place.TheVariants as places
 use Rattle.ds_tree.specs.Nodes.{FileTree}
-use Rattle.ds_image.proofs.Places.{at-append_right}
+use Rattle.ds_image.proofs.Spelling.Places.{at-append_right}
 use Rattle.ds_image.specs.Asking.{targets_of}
 use Rattle.ds_image.specs.Looks.{Look}
 use Rattle.ds_image.specs.Parts.{Parts}

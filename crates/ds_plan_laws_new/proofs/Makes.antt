@@ -24,7 +24,7 @@ use Rattle.ds_image.specs.Objects.{entries_of, is_used, tree_of}
 use Rattle.ds_image.specs.Parts.{Parts, bits_in}
 use Rattle.ds_image.specs.Readings.{Reads}
 use Rattle.ds_image.specs.Sound.{IsSound}
-use Rattle.ds_image.proofs.DirNodes.{dir-rules}
+use Rattle.ds_image.proofs.FileTrees.DirNodes.{dir-rules}
 use Rattle.ds_plan_laws_new.specs.Entering.{subs_in, make_call}
 use Rattle.ds_plan_laws_new.specs.Making.{Leaves}
 use Rattle.ds_plan_laws_new.proofs.Entered.{EntersBodies, EntersParts, o-within, entered-sound}

@@ -21,7 +21,7 @@ use Rattle.ds_layout.specs.declared.places.Place.TheVariants as places
 use Rattle.ds_image.specs.Looks.{HasBytes}
 use Rattle.ds_image.specs.Parts.{Parts, part_at, maps_of}
 use Rattle.ds_image.specs.Readings.{Reads}
-use Rattle.ds_image.proofs.Sizes.{part_within}
+use Rattle.ds_image.proofs.Spelling.Sizes.{part_within}
 use Rattle.ds_plan_laws_new.specs.Beginning.{SetsBit, Begins}
 use Rattle.ds_plan_laws_new.specs.Entering.{FillsRoom}
 

@@ -24,8 +24,8 @@ use Rattle.ds_image.specs.Objects.{entries_of}
 use Rattle.ds_image.specs.Parts.{Parts}
 use Rattle.ds_image.specs.Readings.{Reads}
 use Rattle.ds_image.specs.Sound.{StandsFor}
-use Rattle.ds_image.proofs.LaidOver.{whole-laid_over}
-use Rattle.ds_image.proofs.Sizes.{body_is}
+use Rattle.ds_image.proofs.Journaling.LaidOver.{whole-laid_over}
+use Rattle.ds_image.proofs.Spelling.Sizes.{body_is}
 use Rattle.ds_plan_laws_new.specs.Entering.{subs_in, FillsRoom, make_call}
 use Rattle.ds_plan_laws_new.specs.Making.{ReadyToMake, Leaves}
 use Rattle.ds_plan_laws_new.proofs.Entered.{EntersParts}

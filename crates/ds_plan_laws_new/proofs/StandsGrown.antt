@@ -29,8 +29,8 @@ use Rattle.ds_image.specs.Pending.{Pair}
 use Rattle.ds_image.specs.Readings.{Reads}
 use Rattle.ds_image.specs.Sound.{StandsFor}
 use Rattle.ds_image.specs.SoundObjects.{AreNamesApart}
-use Rattle.ds_image.proofs.LaidOver.{whole-laid_over}
-use Rattle.ds_image.proofs.SoundParts.{objects-of}
+use Rattle.ds_image.proofs.Journaling.LaidOver.{whole-laid_over}
+use Rattle.ds_image.proofs.Spelling.SoundParts.{objects-of}
 use Rattle.ds_plan_laws_new.specs.Entering.{subs_in, make_call}
 use Rattle.ds_plan_laws_new.specs.Making.{ReadyToMake, ReadyToGrow, Leaves}
 use Rattle.ds_plan_laws_new.proofs.Bits.{bits-at}

@@ -17,7 +17,7 @@ use Rattle.ds_image.specs.Parts.{Parts}
 use Rattle.ds_image.specs.Pending.{Pair}
 use Rattle.ds_image.specs.Readings.{Reads}
 use Rattle.ds_image.specs.Sound.{StandsFor, IsSound}
-use Rattle.ds_image.proofs.Places.{at-append, Contains-from_at}
+use Rattle.ds_image.proofs.Spelling.Places.{at-append, Contains-from_at}
 use Rattle.ds_layout.specs.Places.{cluster_lock, place_sector}
 use Rattle.ds_layout.specs.declared.places.Place.TheVariants as places
 use Rattle.ds_ptr.specs.declared.ptr_block.PtrBlock.{PtrBlock}

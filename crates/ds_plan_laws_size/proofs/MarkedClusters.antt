@@ -14,9 +14,9 @@ use Rattle.ds_image.specs.Owned.{CanMark}
 use Rattle.ds_image.specs.Owns.{bit}
 use Rattle.ds_image.specs.Parts.{Parts, part_at, AllSpelled, maps_of, bits_in}
 use Rattle.ds_image.specs.Readings.{Reads, SpellsBits, IsReading}
-use Rattle.ds_image.proofs.Listed.{bits_length}
-use Rattle.ds_image.proofs.Places.{at-from_Contains}
-use Rattle.ds_image.proofs.Sizes.{part_within}
+use Rattle.ds_image.proofs.Ownership.Listed.{bits_length}
+use Rattle.ds_image.proofs.Spelling.Places.{at-from_Contains}
+use Rattle.ds_image.proofs.Spelling.Sizes.{part_within}
 use Rattle.ds_plan_laws_new.proofs.Bits.{bits-get}
 use Rattle.ds_plan_laws_size.specs.Clusters.{MarksCluster, MarksClusters}
 use Rattle.ds_plan_laws_size.specs.Remarks.{Remarks}

@@ -14,8 +14,8 @@ use Rattle.ds_image.specs.Looks.{Look}
 use Rattle.ds_image.specs.Parts.{Parts, bits_in}
 use Rattle.ds_image.specs.Readings.{Reads}
 use Rattle.ds_image.specs.Sound.{IsSound}
-use Rattle.ds_image.proofs.Marking.{can-none}
-use Rattle.ds_image.proofs.Sizes.{body_is}
+use Rattle.ds_image.proofs.Ownership.Marking.{can-none}
+use Rattle.ds_image.proofs.Spelling.Sizes.{body_is}
 use Rattle.ds_ptr.specs.declared.ptr_block.PtrBlock.{PtrBlock}
 use Rattle.ds_tree.specs.Counts.{pointer_blocks}
 use Rattle.ds_plan_laws_size.specs.Clusters.{MarksClusters}

@@ -26,11 +26,11 @@ use Rattle.ds_image.specs.Owns.{IsAt}
 use Rattle.ds_image.specs.Parts.{Parts, bits_in}
 use Rattle.ds_image.specs.Readings.{Reads}
 use Rattle.ds_image.specs.Sound.{IsSound, block_lists}
-use Rattle.ds_image.proofs.Listed.{bits_length}
-use Rattle.ds_image.proofs.Places.{at-append, at-from_Contains, bit-from_at}
-use Rattle.ds_image.proofs.Sizes.{body_is}
-use Rattle.ds_image.proofs.SoundParts.{all-from_at, list-is}
-use Rattle.ds_image.proofs.TreeParts.{blocks-are}
+use Rattle.ds_image.proofs.Ownership.Listed.{bits_length}
+use Rattle.ds_image.proofs.Spelling.Places.{at-append, at-from_Contains, bit-from_at}
+use Rattle.ds_image.proofs.Spelling.Sizes.{body_is}
+use Rattle.ds_image.proofs.Spelling.SoundParts.{all-from_at, list-is}
+use Rattle.ds_image.proofs.FileTrees.TreeParts.{blocks-are}
 use Rattle.ds_plan_laws_new.specs.Making.{Leaves}
 use Rattle.ds_plan_laws_new.proofs.FreeItems.{free-clear}
 use Rattle.ds_plan_laws_new.proofs.Granting.{key-node}

@@ -11,7 +11,7 @@ use Rattle.ds_image.specs.Objects.{addresses_in, pointed_by, tail_by}
 use Rattle.ds_image.specs.Parts.{Parts, part_at}
 use Rattle.ds_image.specs.Readings.{Reads}
 use Rattle.ds_image.specs.Sound.{IsSound, AreZero}
-use Rattle.ds_image.proofs.Sizes.{body_is, file_size, ptr_length}
+use Rattle.ds_image.proofs.Spelling.Sizes.{body_is, file_size, ptr_length}
 use Rattle.ds_plan_laws_size.specs.Pages.{ptrs_in, blocks_in, IsPage, SpellsBlocks}
 use Rattle.ds_plan_laws_size.proofs.FileLists.{ptr_list-is, tail-of_file}
 use Rattle.ds_plan_laws_size.proofs.Paged.{page-of, ptrs-length, some-pointers}

@@ -14,9 +14,9 @@ use Rattle.ds_image.specs.Parts.{Parts, AllSpelled, maps_of}
 use Rattle.ds_image.specs.Pending.{Pair}
 use Rattle.ds_image.specs.Readings.{Reads}
 use Rattle.ds_image.specs.Sound.{StandsFor}
-use Rattle.ds_image.proofs.LaidOver.{whole-laid_over}
-use Rattle.ds_image.proofs.Places.{at-append}
-use Rattle.ds_image.proofs.SoundParts.{each_kind}
+use Rattle.ds_image.proofs.Journaling.LaidOver.{whole-laid_over}
+use Rattle.ds_image.proofs.Spelling.Places.{at-append}
+use Rattle.ds_image.proofs.Spelling.SoundParts.{each_kind}
 use Rattle.ds_ptr.specs.declared.ptr_block.PtrBlock.{PtrBlock}
 use Rattle.ds_image.specs.Objects.{tree_of}
 use Rattle.ds_tree.specs.Nodes.{FileTree, Object, node_at}

@@ -16,9 +16,9 @@ use Rattle.ds_image.specs.Owns.{IsAt}
 use Rattle.ds_image.specs.Parts.{Parts, part_at, bits_in}
 use Rattle.ds_image.specs.Readings.{Reads}
 use Rattle.ds_image.specs.Sound.{IsSound, ptr_lists}
-use Rattle.ds_image.proofs.Listed.{bits_length, ptr_listed_within}
-use Rattle.ds_image.proofs.Places.{at-append, at-append_left, bit-from_at}
-use Rattle.ds_image.proofs.Sizes.{body_is}
+use Rattle.ds_image.proofs.Ownership.Listed.{bits_length, ptr_listed_within}
+use Rattle.ds_image.proofs.Spelling.Places.{at-append, at-append_left, bit-from_at}
+use Rattle.ds_image.proofs.Spelling.Sizes.{body_is}
 use Rattle.ds_plan_laws_size.specs.Pages.{ptrs_in, blocks_in, IsPage, SpellsBlocks}
 use Rattle.ds_plan_laws_size.specs.Pointers.{WritesPages}
 use Rattle.ds_plan_laws_size.specs.Resizing.{IsResized, blocks_after}

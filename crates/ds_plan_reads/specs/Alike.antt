@@ -16,8 +16,8 @@ use Rattle.ds_image.specs.Looks.{Look, HasBytes}
 use Rattle.ds_image.specs.Parts.{Parts, part_at}
 use Rattle.ds_image.specs.Readings.{Reads, SpellsBody, SpellsPtr}
 use Rattle.ds_image.specs.SeenValues.{SeenValue, has_lock, look_of}
-use Rattle.ds_image.proofs.Decoded.{decoded_same, numbered_at}
-use Rattle.ds_image.proofs.PartsRead.{ptr_read}
+use Rattle.ds_image.proofs.Spelling.Decoded.{decoded_same, numbered_at}
+use Rattle.ds_image.proofs.Spelling.PartsRead.{ptr_read}
 use Rattle.ds_plan_reads.specs.Finding.{body_sector, spelled, found}
 use Rattle.ds_plan_reads.specs.Pages.{ptr_sector}
 use Rattle.ds_plan_reads.specs.Questions.{Asked}

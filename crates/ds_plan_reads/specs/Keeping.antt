@@ -21,7 +21,7 @@ use Rattle.ds_image.specs.SeenValues.{SeenValue, has_lock, look_of}
 use Rattle.ds_image.specs.Sound.{StandsFor}
 use Rattle.ds_image.specs.declared.asks.Ask.{Ask}
 use Rattle.ds_image.specs.declared.asks.Ask.TheVariants.{Lock, Read, Odd, Done}
-use Rattle.ds_image.proofs.TreeParts.{object-is}
+use Rattle.ds_image.proofs.FileTrees.TreeParts.{object-is}
 use Rattle.ds_plan_reads.specs.Alike.{body-alike}
 use Rattle.ds_plan_reads.specs.Answering.{and_then, IsNeeded}
 use Rattle.ds_plan_reads.specs.Doing.{no-object}

@@ -22,9 +22,9 @@ use Rattle.ds_image.specs.Parts.{Parts, part_at}
 use Rattle.ds_image.specs.Readings.{Reads}
 use Rattle.ds_image.specs.Sound.{IsSound, ptr_lists}
 use Rattle.ds_image.proofs.Guarding.{lister_found}
-use Rattle.ds_image.proofs.Listed.{ptr_listed_within, block_listed_within}
-use Rattle.ds_image.proofs.Sizes.{body_is, many_pointers, file_size, ptr_length}
-use Rattle.ds_image.proofs.SoundParts.{list-is}
+use Rattle.ds_image.proofs.Ownership.Listed.{ptr_listed_within, block_listed_within}
+use Rattle.ds_image.proofs.Spelling.Sizes.{body_is, many_pointers, file_size, ptr_length}
+use Rattle.ds_image.proofs.Spelling.SoundParts.{list-is}
 use Rattle.ds_plan_reads.specs.Pages.{pointer_of}
 use Rattle.ds_plan_reads.specs.PageLists.{page-cut_off}
 

@@ -19,7 +19,7 @@ use Rattle.ds_image.specs.SeenValues.{SeenValue, has_lock, look_of, sector_in, w
 use Rattle.ds_image.specs.declared.asks.Ask.{Ask}
 use Rattle.ds_image.specs.declared.asks.Ask.TheVariants.{Lock, Read, Odd, Worn, Done, Change}
 use Rattle.ds_image.proofs.Seeing.{sector_in-append}
-use Rattle.ds_image.proofs.Sizes.{part_within}
+use Rattle.ds_image.proofs.Spelling.Sizes.{part_within}
 use Rattle.ds_plan_reads.specs.Alike.{body-alike}
 use Rattle.ds_plan_reads.specs.Answering.{answers, IsNeeded}
 use Rattle.ds_plan_reads.specs.Finding.{body_sector}

@@ -30,9 +30,9 @@ use Rattle.ds_image.specs.Sound.{StandsFor, ptr_lists}
 use Rattle.ds_image.specs.SoundObjects.{AreNamesApart}
 use Rattle.ds_image.specs.declared.asks.Ask.{Ask}
 use Rattle.ds_image.specs.declared.asks.Ask.TheVariants as asks
-use Rattle.ds_image.proofs.Listed.{ptr_listed_within}
-use Rattle.ds_image.proofs.Places.{at-append_right}
-use Rattle.ds_image.proofs.SoundParts.{list-is, objects-of}
+use Rattle.ds_image.proofs.Ownership.Listed.{ptr_listed_within}
+use Rattle.ds_image.proofs.Spelling.Places.{at-append_right}
+use Rattle.ds_image.proofs.Spelling.SoundParts.{list-is, objects-of}
 use Rattle.ds_layout.specs.Places.{place_sector}
 use Rattle.ds_layout.specs.declared.places.Place.TheVariants as places
 use Rattle.ds_plan_base.specs.Bodies.{sub_seen}

@@ -25,8 +25,8 @@ use Rattle.ds_image.specs.SeenValues.{SeenValue, has_lock, look_of}
 use Rattle.ds_image.specs.Sound.{StandsFor}
 use Rattle.ds_image.specs.declared.asks.Ask.{Ask}
 use Rattle.ds_image.specs.declared.asks.Ask.TheVariants as asks
-use Rattle.ds_image.proofs.EntryNames.{get-entries}
-use Rattle.ds_image.proofs.Sizes.{part_within}
+use Rattle.ds_image.proofs.FileTrees.EntryNames.{get-entries}
+use Rattle.ds_image.proofs.Spelling.Sizes.{part_within}
 use Rattle.ds_layout.specs.Places.{cluster_lock, place_sector}
 use Rattle.ds_layout.specs.declared.places.Place.TheVariants as places
 use Rattle.ds_plan_base.specs.Bodies.{body_seen, dir_of_key}

@@ -28,9 +28,9 @@ use Rattle.ds_image.specs.Readings.{Reads}
 use Rattle.ds_image.specs.SeenValues.{SeenValue, has_lock, look_of}
 use Rattle.ds_image.specs.Sound.{StandsFor, block_lists}
 use Rattle.ds_image.specs.declared.asks.Ask.{Ask}
-use Rattle.ds_image.proofs.Marking.{can-none}
-use Rattle.ds_image.proofs.Places.{at-append, Contains-from_at}
-use Rattle.ds_image.proofs.Sizes.{body_is}
+use Rattle.ds_image.proofs.Ownership.Marking.{can-none}
+use Rattle.ds_image.proofs.Spelling.Places.{at-append, Contains-from_at}
+use Rattle.ds_image.proofs.Spelling.Sizes.{body_is}
 use Rattle.ds_jrnl.specs.declared.redo.Redo.{Redo}
 use Rattle.ds_layout.specs.Places.{cluster_lock, place_sector}
 use Rattle.ds_layout.specs.declared.places.Place.TheVariants as places

@@ -6,7 +6,7 @@ use Rattle.ds_base.specs.declared.geometry.Kind.TheVariants.{Fd}
 use Rattle.ds_check.specs.Unreached.{SetsParents, AreNamers, named_by}
 use Rattle.ds_check.specs.Names.{named_in}
 use Rattle.ds_check.proofs.NamingParents.{namers-more}
-use Rattle.ds_image.proofs.ListParents.{written-all}
+use Rattle.ds_image.proofs.Parenthood.ListParents.{written-all}
 use Rattle.ds_check.proofs.unreached.parents_of.Goals as goal
 
 pub loop-dir-preserved : goal.loop-dir-preserved

@@ -12,9 +12,9 @@ use Rattle.ds_image.specs.Looks.{Look}
 use Rattle.ds_image.specs.Objects.{is_used, object_of, tree_of}
 use Rattle.ds_image.specs.Parts.{Parts, part_at}
 use Rattle.ds_image.specs.Readings.{Reads}
-use Rattle.ds_image.proofs.BuiltTrees.{object-next, objects-more, objects-all, fresh-free, built}
-use Rattle.ds_image.proofs.RootedTrees.{root-from_tree, root-used}
-use Rattle.ds_image.proofs.Sizes.{body_is}
+use Rattle.ds_image.proofs.FileTrees.BuiltTrees.{object-next, objects-more, objects-all, fresh-free, built}
+use Rattle.ds_image.proofs.FileTrees.RootedTrees.{root-from_tree, root-used}
+use Rattle.ds_image.proofs.Spelling.Sizes.{body_is}
 use Rattle.ds_image.proofs.building.tree_of.Goals as goal
 
 within : (xs ys : List (Option Body)) (n : ℕ) → xs ≡ ys → n < length xs → n < length ys

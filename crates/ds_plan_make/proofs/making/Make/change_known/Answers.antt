@@ -4,7 +4,7 @@ use Rattle.std.specs.Prelude.{Result, Ok}
 use Rattle.ds_image.specs.Objects.{subs_of}
 use Rattle.ds_image.specs.SeenValues.{look_of}
 use Rattle.ds_image.specs.Readings.{Reads}
-use Rattle.ds_image.proofs.Readings.{parts_there}
+use Rattle.ds_image.proofs.Spelling.Readings.{parts_there}
 use Rattle.ds_plan_make.specs.Answers.{MakeValue, change_known}
 use Rattle.ds_plan_make.specs.declared.making.Making.{Making}
 use Rattle.ds_plan_make.proofs.Known.{grown-is}

@@ -18,7 +18,7 @@ use Rattle.ds_image.specs.Looks.{Look, HasBytes}
 use Rattle.ds_image.specs.Metadata.{front_of}
 use Rattle.ds_image.specs.Pending.{Pair, IsIndexOf, AreJournalled, AreOfJournal, AreOfSlot, ArePending}
 use Rattle.ds_image.specs.Readings.{SpellsSlot}
-use Rattle.ds_image.proofs.Decoded.{decoded_same}
+use Rattle.ds_image.proofs.Spelling.Decoded.{decoded_same}
 
 -- the bytes at a number are determined
 bytes_once : (look : Look) (at : ℕ) (xs ys : List ℕ) → HasBytes look at xs → HasBytes look at ys → xs ≡ ys

@@ -6,7 +6,7 @@ use Rattle.std.proofs.lemmas.Bool.{cases_Bool, false≢true}
 use Rattle.std.proofs.lemmas.List.{get_or-set_same, get_or-set_other}
 use Rattle.std.proofs.lemmas.List.Sums.{sum_by-cons, sum_by-set}
 use Rattle.ds_image.specs.Owns.{IsAt, bit, Owns}
-use Rattle.ds_image.proofs.Places.{marked-within}
+use Rattle.ds_image.proofs.Spelling.Places.{marked-within}
 
 -- how many items are marked
 abbrev pub marked_count : List Bool → ℕ

@@ -7,7 +7,7 @@ use Rattle.std.proofs.lemmas.List.Elements.{Contains-append_left, Contains-appen
 use Rattle.std.proofs.lemmas.Option.{slice_get_within}
 use Rattle.ds_image.specs.Owns.{bit}
 use Rattle.ds_image.specs.Owned.{CanMark, AddsMarks, ClearsMarks, with_marks}
-use Rattle.ds_image.proofs.Places.{at-append, at-append_left, at-append_right, at-single, Contains-from_at, at-from_Contains, bit-at, bit-from_at}
+use Rattle.ds_image.proofs.Spelling.Places.{at-append, at-append_left, at-append_right, at-single, Contains-from_at, at-from_Contains, bit-at, bit-from_at}
 
 Contains-single : (y x : ℕ) → Contains (y ∷ []) x → x ≡ y
 Contains-single y x held = let at = at-from_Contains (y ∷ []) x held in (at-single y at.0 x at.1).1

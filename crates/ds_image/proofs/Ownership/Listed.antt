@@ -13,7 +13,7 @@ use Rattle.ds_image.specs.Owns.{Owns, IsAt}
 use Rattle.ds_image.specs.Parts.{Parts, part_at, AllSpelled, used_bits, bits_in}
 use Rattle.ds_image.specs.Readings.{SpellsBits, IsReading, Reads}
 use Rattle.ds_image.specs.Sound.{IsSound, sub_lists, ptr_lists, block_lists}
-use Rattle.ds_image.proofs.Sizes.{length-flat_map_each}
+use Rattle.ds_image.proofs.Spelling.Sizes.{length-flat_map_each}
 
 map_length : (g : Geom) (look : Look) (kind : Kind) (maps : List (Option Bitmap)) (c : ℕ) (r : Option Bitmap) → IsReading (clusters_of g kind) (SpellsBits g look kind) maps → c < length maps → part_at maps c ≡ r → IsSome r → length (used_bits r) ≡ per_cluster g kind
 map_length g look kind maps c None reads l e some = absurd (false≢true some)

@@ -14,8 +14,8 @@ use Rattle.ds_image.specs.Parts.{Parts}
 use Rattle.ds_image.specs.Rooted.{named_bits}
 use Rattle.ds_image.specs.Sound.{IsSound}
 use Rattle.ds_image.specs.TreeParents.{AreParentsIn}
-use Rattle.ds_image.proofs.Places.{at-append, at-append_left, at-append_right, at-single, marked-within}
-use Rattle.ds_image.proofs.TreeParts.{entry-from_list, list-from_name, name-from_entry}
+use Rattle.ds_image.proofs.Spelling.Places.{at-append, at-append_left, at-append_right, at-single, marked-within}
+use Rattle.ds_image.proofs.FileTrees.TreeParts.{entry-from_list, list-from_name, name-from_entry}
 
 pub sets-none : (old : List (Option ℕ)) (dir : ℕ) → SetsParents old [] dir old
 sets-none old dir = record {

@@ -37,8 +37,8 @@ use Rattle.ds_image.specs.Parts.{maps_of}
 use Rattle.ds_image.specs.Pending.{Pair, AreOfSlot, ArePending}
 use Rattle.ds_image.specs.Readings.{SpellsSlot, SpellsBody, SpellsBits, SpellsSub, SpellsPtr, IsReading, Reads}
 use Rattle.ds_image.specs.Sound.{StandsFor}
-use Rattle.ds_image.proofs.FreshLists.{reading_made, decoded_one, get_or-replicate_same}
-use Rattle.ds_image.proofs.FreshParts.{empty_ptr, fresh_parts, fresh_sound, tree_of-fresh}
+use Rattle.ds_image.proofs.NewVolumes.FreshLists.{reading_made, decoded_one, get_or-replicate_same}
+use Rattle.ds_image.proofs.NewVolumes.FreshParts.{empty_ptr, fresh_parts, fresh_sound, tree_of-fresh}
 
 -- a free slot in generation 1 is a slot
 fresh_slot_is : IsSlot fresh_slot

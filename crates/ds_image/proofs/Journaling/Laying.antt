@@ -28,9 +28,9 @@ use Rattle.ds_image.specs.Metadata.{front_of}
 use Rattle.ds_image.specs.Pending.{Pair, IsIndexOf, AreJournalled, AreOfJournal, ArePending}
 use Rattle.ds_image.specs.Readings.{SpellsSlot}
 use Rattle.ds_image.specs.Replaced.{image_of}
-use Rattle.ds_image.proofs.BadSectors.{bad_index}
-use Rattle.ds_image.proofs.LaidOver.{slice_get-set, laid_over-append}
-use Rattle.ds_image.proofs.Replacing.{length-replaced, replaced_none, replaced_set}
+use Rattle.ds_image.proofs.Spelling.BadSectors.{bad_index}
+use Rattle.ds_image.proofs.Journaling.LaidOver.{slice_get-set, laid_over-append}
+use Rattle.ds_image.proofs.Journaling.Replacing.{length-replaced, replaced_none, replaced_set}
 
 -- what is at a place of a list with one more item
 pub got_push : {X : Type 0} (P : ℕ → X → Type 0) (xs : List X) (x : X) → ((k : ℕ) (y : X) → slice_get xs k ≡ Some y → P k y)

@@ -11,8 +11,8 @@ use Rattle.ds_image.specs.Parents.{AreReached}
 use Rattle.ds_image.specs.Parts.{Parts, part_at}
 use Rattle.ds_image.specs.Rooted.{HasRoot, named_bits, IsRooted}
 use Rattle.ds_image.specs.Sound.{IsSound}
-use Rattle.ds_image.proofs.ListParents.{parents-in}
-use Rattle.ds_image.proofs.ReachedParents.{leads-iff_reached}
+use Rattle.ds_image.proofs.Parenthood.ListParents.{parents-in}
+use Rattle.ds_image.proofs.Parenthood.ReachedParents.{leads-iff_reached}
 
 pub used-within : (p : Parts) (o : ℕ) → is_used (part_at p.bodies o) ≡ true → o < length p.bodies
 used-within p o used = elim (cases_lt o (length p.bodies)) [

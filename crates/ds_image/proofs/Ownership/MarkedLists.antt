@@ -9,8 +9,8 @@ use Rattle.std.proofs.lemmas.List.{take_more, take_all, take_rest, take-append-d
 use Rattle.std.proofs.lemmas.Option.{slice_get_within}
 use Rattle.ds_image.specs.Owns.{Owns}
 use Rattle.ds_image.specs.Owned.{CanMark, AddsMarks, StopsMarking}
-use Rattle.ds_image.proofs.Marking.{adds-none, adds-one, adds-joined, can-none, can-one, can-front, can-back, can-joined}
-use Rattle.ds_image.proofs.Owning.{adds-last, owns-adds, can-from_owns}
+use Rattle.ds_image.proofs.Ownership.Marking.{adds-none, adds-one, adds-joined, can-none, can-one, can-front, can-back, can-joined}
+use Rattle.ds_image.proofs.Ownership.Owning.{adds-last, owns-adds, can-from_owns}
 
 -- the items before number n of a list are marked
 pub record MarkedFront (old : List Bool) (items : List ℕ) (n : ℕ) (now : List Bool) : Type 0 where

@@ -4,8 +4,8 @@ use Rattle.std.proofs.lemmas.Bool.{cases_lt, cases_Bool}
 use Rattle.std.proofs.lemmas.List.{length-take, get_or-take, get_or_past, take_all, map_more, take-map, get_or-map}
 use Rattle.ds_image.specs.Owned.{CanMark}
 use Rattle.ds_image.specs.Owns.{Owns, IsAt, list_of, bit}
-use Rattle.ds_image.proofs.Owning.{owns-same_bits}
-use Rattle.ds_image.proofs.Places.{marked-within, bit-at}
+use Rattle.ds_image.proofs.Ownership.Owning.{owns-same_bits}
+use Rattle.ds_image.proofs.Spelling.Places.{marked-within, bit-at}
 
 -- the lists before one list what they list in all, and the others nothing
 before-at : (lists : List (List ℕ)) (n o i x : ℕ) → IsAt (take n lists) o i x → (o < n) × IsAt lists o i x

@@ -6,8 +6,8 @@ use Rattle.std.proofs.lemmas.List.{get_or_past, get_or_default, get_or-set_same,
 use Rattle.std.proofs.lemmas.Option.{slice_get_within}
 use Rattle.ds_image.specs.Owns.{list_of, IsAt, bit, Owns}
 use Rattle.ds_image.specs.Owned.{AddsItems, CanMark, AddsMarks, ClearsMarks, with_marks}
-use Rattle.ds_image.proofs.Places.{at-append, at-append_left, at-append_right, Contains-from_at, at-from_Contains, marked-within, bit-at, bit-from_at}
-use Rattle.ds_image.proofs.Marking.{adds-many, clears-many, can-one}
+use Rattle.ds_image.proofs.Spelling.Places.{at-append, at-append_left, at-append_right, Contains-from_at, at-from_Contains, marked-within, bit-at, bit-from_at}
+use Rattle.ds_image.proofs.Ownership.Marking.{adds-many, clears-many, can-one}
 
 -- Places of items when an object lists more
 

@@ -20,10 +20,10 @@ use Rattle.ds_image.specs.Owns.{Owns}
 use Rattle.ds_image.specs.Parts.{Parts, maps_of, bits_in}
 use Rattle.ds_image.specs.Readings.{Reads}
 use Rattle.ds_image.specs.Sound.{IsSound}
-use Rattle.ds_image.proofs.Listed.{bits_length}
-use Rattle.ds_image.proofs.OwnedCounts.{used_are}
-use Rattle.ds_image.proofs.Sizes.{body_is, file_size, many_pointers}
-use Rattle.ds_image.proofs.TreeParts.{objects-are}
+use Rattle.ds_image.proofs.Ownership.Listed.{bits_length}
+use Rattle.ds_image.proofs.Ownership.OwnedCounts.{used_are}
+use Rattle.ds_image.proofs.Spelling.Sizes.{body_is, file_size, many_pointers}
+use Rattle.ds_image.proofs.FileTrees.TreeParts.{objects-are}
 
 -- no more are marked than there are
 marked-most : (bits : List Bool) → count_by (λ b. b) bits ≤ length bits

@@ -17,7 +17,7 @@ use Rattle.ds_image.specs.ImageValues.{IsImage}
 use Rattle.ds_image.specs.Looks.{Look, HasBytes, IsBlock}
 use Rattle.ds_image.specs.Readings.{SpellsSub, SpellsPtr, IsReading}
 use Rattle.ds_image.specs.SpelledParts.{sub_in, ptr_in, spelled_subs, spelled_ptrs}
-use Rattle.ds_image.proofs.Decoded.{spelled_at}
+use Rattle.ds_image.proofs.Spelling.Decoded.{spelled_at}
 
 sub_in-read : (look : Look) (at : ℕ) (o : Option Sector) (blocks : (s : Sector) → o ≡ Some s → IsBlock s.bytes) → look at ≡ o
     → IsDecoded (sub_in o blocks) (λ b. IsSubBlock b × HasBytes look at (sub_bytes b))

@@ -23,9 +23,9 @@ use Rattle.ds_image.specs.Looks.{Look}
 use Rattle.ds_image.specs.Objects.{subs_by, pointed_by, blocks_by, node_by, object_of, rooms_in, rooms_of, used_rooms, entries_of}
 use Rattle.ds_image.specs.Parts.{Parts, part_at}
 use Rattle.ds_image.specs.Readings.{Reads}
-use Rattle.ds_image.proofs.EntryNames.{pairs, find-some, get-entries}
-use Rattle.ds_image.proofs.Sizes.{part_within}
-use Rattle.ds_image.proofs.SoundParts.{all-at}
+use Rattle.ds_image.proofs.FileTrees.EntryNames.{pairs, find-some, get-entries}
+use Rattle.ds_image.proofs.Spelling.Sizes.{part_within}
+use Rattle.ds_image.proofs.Spelling.SoundParts.{all-at}
 
 -- the entries of rooms are entries, no more than the rooms
 entries-in : (rooms : List (Option Entry)) → All IsRoom rooms → All IsEntry (filter_map (λ room. room) rooms)

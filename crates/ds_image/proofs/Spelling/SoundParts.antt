@@ -17,7 +17,7 @@ use Rattle.ds_image.specs.Parts.{Parts, part_at, AllSpelled, maps_of}
 use Rattle.ds_image.specs.Readings.{Reads}
 use Rattle.ds_image.specs.Sound.{IsSound, IsNamedRight}
 use Rattle.ds_image.specs.SoundObjects.{IsSoundObject, IsMarked, HasShortRows}
-use Rattle.ds_image.proofs.Listed.{bits_length}
+use Rattle.ds_image.proofs.Ownership.Listed.{bits_length}
 
 few : (kind : Kind) → 8 * most_items kind < 2 ^ 32
 few Fd = lit< tt

@@ -10,8 +10,8 @@ use Rattle.ds_image.specs.ReadTrees.{StandsForNone}
 use Rattle.ds_image.specs.Readings.{Reads}
 use Rattle.ds_image.specs.Rooted.{IsRooted}
 use Rattle.ds_image.specs.Sound.{IsSound, StandsFor}
-use Rattle.ds_image.proofs.Readings.{parts_same}
-use Rattle.ds_image.proofs.RootedTrees.{rooted-from_tree}
+use Rattle.ds_image.proofs.Spelling.Readings.{parts_same}
+use Rattle.ds_image.proofs.FileTrees.RootedTrees.{rooted-from_tree}
 
 module _ (g : Geom) (image : List Sector) (p : Parts) (reads : Reads g (slice_get image) p) where
   parts-are : (t : FileTree) (stands : StandsFor g image t) → stands.parts ≡ p

@@ -14,7 +14,7 @@ use Rattle.ds_layout.specs.Places.{blocks_at}
 use Rattle.ds_image.specs.Looks.{Look}
 use Rattle.ds_image.specs.Metadata.{front_of}
 use Rattle.ds_image.specs.Replaced.{or_sector, replaced_from, image_of}
-use Rattle.ds_image.proofs.LaidOver.{slice_get-set}
+use Rattle.ds_image.proofs.Journaling.LaidOver.{slice_get-set}
 
 pub length-replaced : (pending : Look) (at : ℕ) (xs : List Sector) → length (replaced_from pending at xs) ≡ length xs
 length-replaced pending at [] = refl

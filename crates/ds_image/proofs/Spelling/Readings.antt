@@ -27,7 +27,7 @@ use Rattle.ds_layout.proofs.Bounds.{bounds}
 use Rattle.ds_image.specs.Looks.{Look, AreBlocks}
 use Rattle.ds_image.specs.Parts.{Parts, maps_of}
 use Rattle.ds_image.specs.Readings.{SpellsSlot, SpellsHeader, SpellsBody, SpellsBits, SpellsSub, SpellsPtr, IsReading, Reads}
-use Rattle.ds_image.proofs.Decoded.{spelled_there, numbered_there, reading_same, reading_there}
+use Rattle.ds_image.proofs.Spelling.Decoded.{spelled_there, numbered_there, reading_same, reading_there}
 
 pub slot_there : (g : Geom) (look : Look) (number : ℕ) → number < 256 → AreBlocks look → (r : Option Slot) × IsDecoded r (SpellsSlot g look number)
 slot_there g look number small blocks =

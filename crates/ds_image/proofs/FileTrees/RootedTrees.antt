@@ -18,8 +18,8 @@ use Rattle.ds_image.specs.Owns.{Owns, IsAt, bit}
 use Rattle.ds_image.specs.Parts.{Parts, part_at}
 use Rattle.ds_image.specs.Rooted.{HasRoot, named_bits, IsRooted}
 use Rattle.ds_image.specs.Sound.{IsSound, rooms_used_by, IsNamedRight}
-use Rattle.ds_image.proofs.EntryNames.{apart-index}
-use Rattle.ds_image.proofs.TreeParts.{object-is, node-is, used-at, node-at, name-from_entry, entry-from_list, list-from_name}
+use Rattle.ds_image.proofs.FileTrees.EntryNames.{apart-index}
+use Rattle.ds_image.proofs.FileTrees.TreeParts.{object-is, node-is, used-at, node-at, name-from_entry, entry-from_list, list-from_name}
 
 -- whether a descriptor's bit is set: that of each used one but the root
 used_bit : (bodies : List (Option Body)) (o : ℕ) → bit (map is_used bodies) o ≡ is_used (part_at bodies o)

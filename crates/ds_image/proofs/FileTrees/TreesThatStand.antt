@@ -18,13 +18,13 @@ use Rattle.ds_image.specs.Parts.{Parts, part_at}
 use Rattle.ds_image.specs.Readings.{Reads}
 use Rattle.ds_image.specs.Rooted.{IsRooted}
 use Rattle.ds_image.specs.Sound.{IsSound, block_lists}
-use Rattle.ds_image.proofs.DirNodes.{dirs-of, files-of, born-of}
-use Rattle.ds_image.proofs.ItemCounts.{within}
-use Rattle.ds_image.proofs.Listed.{block_listed_within}
-use Rattle.ds_image.proofs.RootedTrees.{named-once, root-is_dir, root-birth, rooted-from_tree}
-use Rattle.ds_image.proofs.Sizes.{body_is}
-use Rattle.ds_image.proofs.SoundParts.{all-from_at, list-is}
-use Rattle.ds_image.proofs.TreeParts.{object-is, objects-are, node-is, blocks-are, used-at}
+use Rattle.ds_image.proofs.FileTrees.DirNodes.{dirs-of, files-of, born-of}
+use Rattle.ds_image.proofs.Ownership.ItemCounts.{within}
+use Rattle.ds_image.proofs.Ownership.Listed.{block_listed_within}
+use Rattle.ds_image.proofs.FileTrees.RootedTrees.{named-once, root-is_dir, root-birth, rooted-from_tree}
+use Rattle.ds_image.proofs.Spelling.Sizes.{body_is}
+use Rattle.ds_image.proofs.Spelling.SoundParts.{all-from_at, list-is}
+use Rattle.ds_image.proofs.FileTrees.TreeParts.{object-is, objects-are, node-is, blocks-are, used-at}
 
 module _ (g : Geom) (look : Look) (p : Parts) (reads : Reads g look p) (sound : IsSound p) where
   bodies-are : (o : ℕ) (b : Body) → part_at p.bodies o ≡ Some b → IsBody b

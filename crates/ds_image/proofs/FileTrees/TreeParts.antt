@@ -19,8 +19,8 @@ use Rattle.ds_image.specs.Objects.{subs_by, blocks_by, node_by, object_of, tree_
 use Rattle.ds_image.specs.Owns.{IsAt, list_of}
 use Rattle.ds_image.specs.Parts.{Parts, part_at}
 use Rattle.ds_image.specs.Sound.{IsSound, rooms_used_by}
-use Rattle.ds_image.proofs.EntryNames.{find-some, find-at, get-entries}
-use Rattle.ds_image.proofs.SoundParts.{list-is}
+use Rattle.ds_image.proofs.FileTrees.EntryNames.{find-some, find-at, get-entries}
+use Rattle.ds_image.proofs.Spelling.SoundParts.{list-is}
 
 -- the object of each number, also past the last
 pub object-is : (p : Parts) (o : ℕ) → object_at (tree_of p) o ≡ object_of p (part_at p.bodies o)

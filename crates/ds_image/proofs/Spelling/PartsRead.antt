@@ -17,8 +17,8 @@ use Rattle.ds_image.specs.Looks.{Look, HasBytes}
 use Rattle.ds_image.specs.Parts.{Parts, part_at, maps_of}
 use Rattle.ds_image.specs.Readings.{SpellsBody, SpellsBits, IsReading, Reads}
 use Rattle.ds_image.specs.SpelledParts.{spelled_subs, spelled_ptrs}
-use Rattle.ds_image.proofs.Decoded.{decoded_same, reading_push, spelled_at}
-use Rattle.ds_image.proofs.SpellingParts.{subs-read, ptrs-read}
+use Rattle.ds_image.proofs.Spelling.Decoded.{decoded_same, reading_push, spelled_at}
+use Rattle.ds_image.proofs.Spelling.SpellingParts.{subs-read, ptrs-read}
 
 pub reading-none : {V : Type 0} (Spells : ℕ → V → Type 0) (xs : List (Option V)) → xs ≡ [] → IsReading 0 Spells xs
 reading-none Spells xs none = subst (IsReading 0 Spells) (sym none) (record { len = refl; each = λ i l. absurd (omega arith) })

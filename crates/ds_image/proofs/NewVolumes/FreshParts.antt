@@ -20,7 +20,7 @@ use Rattle.ds_image.specs.Objects.{is_used, subs_of, ptrs_of, blocks_of, tail_of
 use Rattle.ds_image.specs.Owns.{list_of, bit}
 use Rattle.ds_image.specs.Parts.{Parts, part_at, AllSpelled, maps_of, bits_in}
 use Rattle.ds_image.specs.Sound.{sub_lists, ptr_lists, block_lists, rooms_used_by, AreZero, IsSound}
-use Rattle.ds_image.proofs.FreshLists.{made, each_made, all_made, first_and_same, clear_bits_in, first_bit_in, get_or-replicate_same, none_there, owns_nothing}
+use Rattle.ds_image.proofs.NewVolumes.FreshLists.{made, each_made, all_made, first_and_same, clear_bits_in, first_bit_in, get_or-replicate_same, none_there, owns_nothing}
 
 -- the pointer block without addresses
 abbrev pub empty_ptr : PtrBlock

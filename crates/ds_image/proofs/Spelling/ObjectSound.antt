@@ -10,7 +10,7 @@ use Rattle.ds_image.specs.Objects.{addresses_in, ptrs_of, tail_of}
 use Rattle.ds_image.specs.Parts.{Parts, part_at}
 use Rattle.ds_image.specs.Sound.{IsNamedRight}
 use Rattle.ds_image.specs.SoundObjects.{count_in, IsSoundObject}
-use Rattle.ds_image.proofs.NamesApart.{apart-none}
+use Rattle.ds_image.proofs.FileTrees.NamesApart.{apart-none}
 
 pub rest-from_min : {X : Type 0} (xs : List X) (at n : ℕ) → at ≡ min n (length xs) → take (length xs - at) (drop at xs) ≡ drop n xs
 rest-from_min xs at n is = take_rest xs at ∙ ap (λ k. drop k xs) is ∙ drop_min n xs

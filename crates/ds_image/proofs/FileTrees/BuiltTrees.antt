@@ -15,7 +15,7 @@ use Rattle.ds_tree.specs.Trees.{entries_of, rooms_of}
 use Rattle.ds_image.specs.Objects.{object_of, tree_of}
 use Rattle.ds_image.specs.Parts.{Parts}
 use Rattle.ds_image.specs.SoundObjects.{AreNamesApart}
-use Rattle.ds_image.proofs.EntryNames.{pairs, find-new}
+use Rattle.ds_image.proofs.FileTrees.EntryNames.{pairs, find-new}
 
 abbrev dir_object : ℕ → Entries → ℕ → Object
 dir_object birth entries rooms = record { birth = birth; node = Some (Dir entries rooms) }

@@ -1,0 +1,5 @@
+-- Parents of objects, and what is reached by them.
+pub mod ListParents
+pub mod ReachedObjects
+pub mod ReachedParents
+pub mod WalkingParents
