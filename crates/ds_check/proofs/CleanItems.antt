@@ -16,10 +16,10 @@ use Rattle.ds_image.specs.Owns.{list_of, bit, Owns}
 use Rattle.ds_image.specs.Parts.{Parts, part_at, maps_of, bits_in, AllSpelled}
 use Rattle.ds_image.specs.Readings.{Reads}
 use Rattle.ds_image.specs.SoundObjects.{IsMarked}
-use Rattle.ds_image.specs.Users.{users, uses_by, AreUsedOnce}
+use Rattle.ds_image.specs.Users.{users, uses_by}
 use Rattle.ds_image.specs.Users as usage
 use Rattle.ds_image.proofs.Ownership.Listed.{bits_length}
-use Rattle.ds_image.proofs.Ownership.OwningUsers.{owns-from_users}
+use Rattle.ds_image.proofs.Ownership.OwningUsers.{owns-from_users, AreUsedOnce}
 use Rattle.ds_image.proofs.Spelling.Places.{marked-within}
 use Rattle.ds_image.proofs.Spelling.SoundParts.{list-is}
 use Rattle.ds_check.specs.declared.findings.Find.{Find}

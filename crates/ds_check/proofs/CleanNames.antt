@@ -24,10 +24,10 @@ use Rattle.ds_image.specs.Parts.{Parts, part_at}
 use Rattle.ds_image.specs.Rooted.{named_bits}
 use Rattle.ds_image.specs.Sound.{IsNamedRight, rooms_used_by}
 use Rattle.ds_image.specs.SoundObjects.{AreNamesApart}
-use Rattle.ds_image.specs.Users.{users, AreUsedOnce}
+use Rattle.ds_image.specs.Users.{users}
 use Rattle.ds_image.specs.Users as usage
 use Rattle.ds_image.proofs.FileTrees.NamesApart.{apart-none}
-use Rattle.ds_image.proofs.Ownership.OwningUsers.{owns-from_users}
+use Rattle.ds_image.proofs.Ownership.OwningUsers.{owns-from_users, AreUsedOnce}
 use Rattle.ds_image.proofs.FileTrees.RootedTrees.{named_bit}
 use Rattle.ds_image.proofs.Parenthood.ReachedObjects.{used-within}
 use Rattle.ds_check.specs.declared.findings.Find.TheVariants as finds

@@ -17,7 +17,7 @@ use Rattle.ds_tree.specs.WellFormed.{Names}
 use Rattle.ds_image.specs.Objects.{is_used, rooms_of, subs_of, tree_of}
 use Rattle.ds_image.specs.Parents.{parent_of}
 use Rattle.ds_image.specs.Parts.{Parts, part_at}
-use Rattle.ds_image.specs.TreeParents.{AreParentsIn}
+use Rattle.ds_image.proofs.Parenthood.TreeParents.{AreParentsIn}
 use Rattle.ds_image.proofs.Parenthood.ReachedObjects.{used-within}
 use Rattle.ds_check.specs.Unreached.{named_by, times, AreNamers}
 use Rattle.ds_check.specs.declared.findings.Find.TheVariants.{Dangling, Again}

@@ -2,4 +2,5 @@
 pub mod ListParents
 pub mod ReachedObjects
 pub mod ReachedParents
+pub mod TreeParents
 pub mod WalkingParents

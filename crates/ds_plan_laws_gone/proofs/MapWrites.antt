@@ -12,7 +12,6 @@ use Rattle.ds_bitmap.specs.Bits.{Bitmap, IsBits, bits_bytes}
 use Rattle.ds_layout.specs.Places.{place_sector}
 use Rattle.ds_layout.specs.declared.places.Place.TheVariants as places
 use Rattle.ds_image.specs.Logical.{laid_over}
-use Rattle.ds_image.specs.Owned.{ClearsMarks}
 use Rattle.ds_image.specs.Owns.{bit}
 use Rattle.ds_image.specs.Parts.{Parts, part_at, AllSpelled, maps_of, bits_in}
 use Rattle.ds_image.specs.Readings.{Reads}
@@ -25,6 +24,7 @@ use Rattle.ds_plan_laws_new.proofs.Spelling.{map-at}
 use Rattle.ds_plan_laws_gone.specs.MapWrites.{MapWrite, map_pairs, with_map, with_all_maps, BitChange, ChangesMap, ChangesMaps, IsUnwritten, AreWrittenOnce, IsClearedOf, IsReplacedBy, ClearsMaps}
 use Rattle.ds_plan_laws_gone.specs.Replaced.{ReplacesMarks}
 use Rattle.ds_plan_laws_gone.proofs.ManyBits.{some-is, bits-each, bits-count, clears-each}
+use Rattle.ds_image.proofs.Ownership.Marking.{ClearsMarks}
 
 pub same-kind_or_not : (a b : Kind) → (a ≡ b) ⊎ (a ≢ b)
 same-kind_or_not Fd Fd = inl refl

@@ -10,11 +10,11 @@ use Rattle.ds_base.specs.declared.geometry.Geom.{Geom}
 use Rattle.ds_base.specs.declared.geometry.Kind.{Kind}
 use Rattle.ds_bitmap.specs.Bits.{Bitmap}
 use Rattle.ds_image.specs.Looks.{Look}
-use Rattle.ds_image.specs.Owned.{CanMark, AddsMarks, ClearsMarks}
+use Rattle.ds_image.specs.Owned.{CanMark, AddsMarks}
 use Rattle.ds_image.specs.Owns.{bit}
 use Rattle.ds_image.specs.Parts.{Parts, AllSpelled, maps_of, bits_in}
 use Rattle.ds_image.specs.Readings.{Reads}
-use Rattle.ds_image.proofs.Ownership.Marking.{adds-many, clears-many}
+use Rattle.ds_image.proofs.Ownership.Marking.{adds-many, clears-many, ClearsMarks}
 use Rattle.ds_image.proofs.Spelling.Places.{at-append, at-append_left, at-append_right, Contains-from_at, at-from_Contains}
 use Rattle.ds_image.proofs.Spelling.Sizes.{part_within}
 use Rattle.ds_plan_laws_new.proofs.Bits.{bit-within, bits-at}

@@ -1,13 +1,18 @@
 -- Which lists can be marked, and what marks are after one list and another.
 use Rattle.std.proofs.Common.{◌≡◌, ℕ, suc, ◌+◌, ◌<◌, Bool, true, false, List, [], ◌∷◌, ◌++◌, length, set, inl, inr, refl, sym, ap, ◌∙◌, arith}
-use Rattle.std.specs.Prelude.{Contains, Some, slice_get}
+use Rattle.std.specs.Prelude.{Contains, Some, slice_get, ◌↔◌}
 use Rattle.std.proofs.lemmas.Bool.{cases_eq, cases_Bool, false≢true}
 use Rattle.std.proofs.lemmas.List.{get_or-set_same, get_or-set_other, length-set}
 use Rattle.std.proofs.lemmas.List.Elements.{Contains-append_left, Contains-append_right, Contains-append_cases}
 use Rattle.std.proofs.lemmas.Option.{slice_get_within}
 use Rattle.ds_image.specs.Owns.{bit}
-use Rattle.ds_image.specs.Owned.{CanMark, AddsMarks, ClearsMarks, with_marks}
+use Rattle.ds_image.specs.Owned.{CanMark, AddsMarks, with_marks}
 use Rattle.ds_image.proofs.Spelling.Places.{at-append, at-append_left, at-append_right, at-single, Contains-from_at, at-from_Contains, bit-at, bit-from_at}
+
+-- an item is marked exactly where it was before and is none of these
+pub record ClearsMarks (bits : List Bool) (items : List ℕ) (after : List Bool) : Type 0 where
+  pub count : length after ≡ length bits
+  pub marks : (x : ℕ) → (bit after x ≡ true) ↔ ((bit bits x ≡ true) × ¬ Contains items x)
 
 Contains-single : (y x : ℕ) → Contains (y ∷ []) x → x ≡ y
 Contains-single y x held = let at = at-from_Contains (y ∷ []) x held in (at-single y at.0 x at.1).1

@@ -1,13 +1,18 @@
 -- How ownership follows the lists and the marks: items given to an object, items that it gives up, and what lists determine.
-use Rattle.std.proofs.Common.{◌≡◌, ℕ, zero, suc, ◌+◌, ◌<◌, ◌⊎◌, Bool, true, false, List, [], ◌∷◌, ◌++◌, length, get_or, set, replicate, inl, inr, refl, sym, ap, ◌∙◌, subst, arith}
+use Rattle.std.proofs.Common.{◌≡◌, ℕ, zero, suc, ◌+◌, ◌<◌, ◌⊎◌, Bool, true, false, List, [], ◌∷◌, ◌++◌, length, get_or, set, replicate, inl, inr, refl, sym, ap, ◌∙◌, subst, arith, ◌≢◌}
 use Rattle.std.specs.Prelude.{Some, slice_get}
 use Rattle.std.proofs.lemmas.Bool.{cases_lt, cases_eq, cases_Bool, false≢true}
 use Rattle.std.proofs.lemmas.List.{get_or_past, get_or_default, get_or-set_same, get_or-set_other, get_or_append_left, get_or_push, get_or-append_right, ext_get_or, length_push}
 use Rattle.std.proofs.lemmas.Option.{slice_get_within}
 use Rattle.ds_image.specs.Owns.{list_of, IsAt, bit, Owns}
-use Rattle.ds_image.specs.Owned.{AddsItems, CanMark, AddsMarks, ClearsMarks, with_marks}
+use Rattle.ds_image.specs.Owned.{CanMark, AddsMarks, with_marks}
 use Rattle.ds_image.proofs.Spelling.Places.{at-append, at-append_left, at-append_right, Contains-from_at, at-from_Contains, marked-within, bit-at, bit-from_at}
-use Rattle.ds_image.proofs.Ownership.Marking.{adds-many, clears-many, can-one}
+use Rattle.ds_image.proofs.Ownership.Marking.{adds-many, clears-many, can-one, ClearsMarks}
+
+-- object o lists these items behind those that it listed, and every other object lists what it did
+pub record AddsItems (lists : List (List ℕ)) (o : ℕ) (items : List ℕ) (more : List (List ℕ)) : Type 0 where
+  pub here : list_of more o ≡ list_of lists o ++ items
+  pub elsewhere : (p : ℕ) → p ≢ o → list_of more p ≡ list_of lists p
 
 -- Places of items when an object lists more
 

@@ -1,6 +1,6 @@
 -- Lists own the marked items exactly where no item has two users, and those that have one are marked.
 use Rattle.std.proofs.Common.{◌≡◌, ◌≢◌, ℕ, zero, suc, ◌+◌, ◌≤◌, cond, Bool, true, false, eqb, List, [], ◌∷◌, ◌++◌, length, map, filter, inl, inr, refl, sym, ap, ◌∙◌, subst, arith}
-use Rattle.std.specs.Prelude.{Some, slice_get, count_by}
+use Rattle.std.specs.Prelude.{Some, slice_get, count_by, ◌↔◌, ◌<◌}
 use Rattle.std.specs.List.{sum_by, flat_map, range_with_len}
 use Rattle.std.proofs.lemmas.Bool.{cases_eq, cases_lt, cases_Bool, eq-eqb, eqb-true}
 use Rattle.std.proofs.lemmas.List.{map-append, length-append}
@@ -8,8 +8,17 @@ use Rattle.std.proofs.lemmas.List.Elements.{filter-append}
 use Rattle.std.proofs.lemmas.List.Folds.{fold-map}
 use Rattle.std.proofs.lemmas.List.FromFn.{fill_by_all}
 use Rattle.std.proofs.lemmas.List.Sums.{sum_by-cons}
-use Rattle.ds_image.specs.Owns.{list_of, IsAt, Owns}
-use Rattle.ds_image.specs.Users.{users, uses_by, uses_of, AreUsedOnce}
+use Rattle.ds_image.specs.Owns.{list_of, IsAt, Owns, bit}
+use Rattle.ds_image.specs.Users.{users, uses_by}
+
+-- all uses of items, object by object, each in the order of its list
+abbrev pub uses_of : List (List ℕ) → List (ℕ × ℕ)
+uses_of lists = flat_map (λ object. uses_by object (list_of lists object)) (range_with_len 0 (length lists))
+
+-- no item has two users, and just those that have one are marked
+pub record AreUsedOnce (lists : List (List ℕ)) (bits : List Bool) : Type 0 where
+  pub few : (x : ℕ) → length (users (uses_of lists) x) ≤ 1
+  pub used : (x : ℕ) → (bit bits x ≡ true) ↔ (0 < length (users (uses_of lists) x))
 
 -- how often an item stands in a list
 abbrev times : ℕ → List ℕ → ℕ

@@ -13,7 +13,7 @@ use Rattle.ds_image.specs.Parents.{parent_of}
 use Rattle.ds_image.specs.Parts.{Parts}
 use Rattle.ds_image.specs.Rooted.{named_bits}
 use Rattle.ds_image.specs.Sound.{IsSound}
-use Rattle.ds_image.specs.TreeParents.{AreParentsIn}
+use Rattle.ds_image.proofs.Parenthood.TreeParents.{AreParentsIn}
 use Rattle.ds_image.proofs.Spelling.Places.{at-append, at-append_left, at-append_right, at-single, marked-within}
 use Rattle.ds_image.proofs.FileTrees.TreeParts.{entry-from_list, list-from_name, name-from_entry}
 

@@ -5,7 +5,7 @@ use Rattle.std.proofs.lemmas.Bool.{cases_eq}
 use Rattle.ds_tree.specs.Nodes.{FileTree}
 use Rattle.ds_tree.specs.WellFormed.{Reached, root, entry}
 use Rattle.ds_image.specs.Parents.{LeadsToRoot, AtRoot, ByParent}
-use Rattle.ds_image.specs.TreeParents.{AreParentsIn}
+use Rattle.ds_image.proofs.Parenthood.TreeParents.{AreParentsIn}
 
 module _ (t : FileTree) (parents : List (Option ℕ)) (are : AreParentsIn t parents) where
   pub reached-from_parents : (o : ℕ) → LeadsToRoot parents o → Reached t o
