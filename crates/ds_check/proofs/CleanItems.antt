@@ -14,7 +14,7 @@ use Rattle.ds_image.specs.Looks.{Look}
 use Rattle.ds_image.specs.Objects.{subs_of, ptrs_of, blocks_of, is_used}
 use Rattle.ds_image.specs.Owns.{list_of, bit, Owns}
 use Rattle.ds_image.specs.Parts.{Parts, part_at, maps_of, bits_in, AllSpelled}
-use Rattle.ds_image.specs.Readings.{Reads}
+use Rattle.ds_image.specs.Readings.{ReadsParts}
 use Rattle.ds_image.specs.SoundObjects.{IsMarked}
 use Rattle.ds_image.specs.Users.{users, uses_by}
 use Rattle.ds_image.specs.Users as usage
@@ -124,7 +124,7 @@ bits-same true false p q = absurd (cc)
 bits-same false true p q = absurd (cc)
 bits-same false false p q = refl
 
-module _ (g : Geom) (look : Look) (p : Parts) (reads : Reads g look p) (maps : (kind : Kind) → AllSpelled (maps_of p kind))
+module _ (g : Geom) (look : Look) (p : Parts) (reads : ReadsParts g look p) (maps : (kind : Kind) → AllSpelled (maps_of p kind))
     (sharing : sharing_stage g p ≡ []) (marking : marking_stage g p ≡ []) where
   marks-of : (kind : Kind) (n : ℕ) → n < items_of g kind → is_marked p kind n ≡ is_in_use g p kind n
   marks-of kind n within =

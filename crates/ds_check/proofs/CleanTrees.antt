@@ -11,7 +11,7 @@ use Rattle.ds_image.specs.ImageValues.{IsImage}
 use Rattle.ds_image.specs.Logical.{IsLogical}
 use Rattle.ds_image.specs.Objects.{addresses_in, is_used, tree_of, subs_of, ptrs_of}
 use Rattle.ds_image.specs.Parts.{Parts, part_at}
-use Rattle.ds_image.specs.Readings.{Reads}
+use Rattle.ds_image.specs.Readings.{ReadsParts}
 use Rattle.ds_image.specs.ReadTrees.{StandsForNone}
 use Rattle.ds_image.specs.Rooted.{IsRooted}
 use Rattle.ds_image.specs.Sound.{IsSound, IsNamedRight, rooms_used_by, StandsFor}
@@ -72,7 +72,7 @@ nothing-lost p lost o used = elim (lost.rest o used) [
   | inr reached ↦ reached
 ]
 
-module _ (g : Geom) (image : List Sector) (p : Parts) (is : IsImage g image) (reads : Reads g (slice_get image) p) (clean : AreClean g p) where
+module _ (g : Geom) (image : List Sector) (p : Parts) (is : IsImage g image) (reads : ReadsParts g (slice_get image) p) (clean : AreClean g p) where
   pointers : (n : ℕ) → n < items_of g Pb → length (addresses_in (part_at p.ptrs n)) ≡ 128
   pointers n within = let there = pointer-there g image p is reads n within in ap (λ r. length (addresses_in r)) there.1 ∙ there.2
 
@@ -109,7 +109,7 @@ module _ (g : Geom) (image : List Sector) (p : Parts) (is : IsImage g image) (re
       record { parts = p; whole = omega (arith, is.size); reads = reads; sound = parts-sound; tree = refl; is_tree = tree-from_rooted g (slice_get image) p reads parts-sound rooted }
 
 pub stands-found : (g : Geom) (sectors image : List Sector) (p : Parts) (finds : List Find) → HasNoBad g sectors → IsLogical g sectors image → IsImage g image
-    → Reads g (slice_get image) p → AreFoundIn g p finds → finds ≡ [] → StandsForTree g sectors
+    → ReadsParts g (slice_get image) p → AreFoundIn g p finds → finds ≡ [] → StandsForTree g sectors
 stands-found g sectors image p finds good logical is reads found none =
     let nothing = nothing-before p (found_in g p) (subst (AreFoundIn g p) none found) in
     record { good = good; image = image; is_logical = logical; tree = tree_of p; stands = stands-clean g image p is reads (all-clean g p nothing.0) nothing.1 }

@@ -10,7 +10,7 @@ use Rattle.ds_layout.specs.Places.{total_of}
 use Rattle.ds_layout.specs.Volume.{vol_bytes}
 use Rattle.ds_layout.proofs.FirstSectors.{vol_same}
 use Rattle.ds_image.specs.Parts.{Parts}
-use Rattle.ds_image.specs.Readings.{Reads, SpellsSlot}
+use Rattle.ds_image.specs.Readings.{ReadsParts, SpellsSlot}
 use Rattle.ds_image.proofs.Spelling.Decoded.{decoded_same, reading_same}
 use Rattle.ds_image.proofs.Journaling.OneLogical.{logical_once}
 use Rattle.ds_image.proofs.Spelling.Readings.{parts_same}
@@ -71,7 +71,7 @@ or-lost-once p (first ∷ more) xs ys a b = a ∙ sym b
 behind-once : (g : Geom) (sectors : List Sector) (xs ys : List Find) → AreFoundBehind g sectors xs → AreFoundBehind g sectors ys → xs ≡ ys
 behind-once g sectors xs ys a b =
     let image : a.image ≡ b.image = logical_once g sectors a.image b.image a.is_logical b.is_logical in
-    let reads : Reads g (slice_get b.image) a.parts = subst (λ (s : List Sector). Reads g (slice_get s) a.parts) image a.reads in
+    let reads : ReadsParts g (slice_get b.image) a.parts = subst (λ (s : List Sector). ReadsParts g (slice_get s) a.parts) image a.reads in
     let parts : a.parts ≡ b.parts = parts_same g (slice_get b.image) a.parts b.parts reads b.reads in
     or-lost-once b.parts (found_in g b.parts) xs ys (subst (λ (p : Parts). AreFoundIn g p xs) parts a.found) b.found
 

@@ -7,7 +7,7 @@ use Rattle.ds_tree.specs.WellFormed.{Reached}
 use Rattle.ds_image.specs.Logical.{IsLogical}
 use Rattle.ds_image.specs.Objects.{is_used, tree_of}
 use Rattle.ds_image.specs.Parts.{Parts, part_at}
-use Rattle.ds_image.specs.Readings.{Reads}
+use Rattle.ds_image.specs.Readings.{ReadsParts}
 use Rattle.ds_check.specs.declared.findings.Find.{Find}
 use Rattle.ds_check.specs.declared.findings.Find.TheVariants.{Lost}
 use Rattle.ds_check.specs.Controls.{Controls, ReadsControls}
@@ -51,7 +51,7 @@ pub record AreFoundBehind (g : Geom) (sectors : List Sector) (finds : List Find)
   pub image : List Sector
   pub is_logical : IsLogical g sectors image
   pub parts : Parts
-  pub reads : Reads g (slice_get image) parts
+  pub reads : ReadsParts g (slice_get image) parts
   pub found : AreFoundIn g parts finds
 
 -- the findings of the first two stages, where there are any, and else those of the logical image

@@ -5,7 +5,7 @@ ghost use Rattle.ds_base.specs.Geometry.{IsGeom, clusters_of, items_of};
 ghost use Rattle.ds_base.specs.declared.geometry.Kind.TheVariants as kinds;
 ghost use Rattle.ds_image.specs.ImageValues.{IsImage};
 ghost use Rattle.ds_image.specs.Parts.{maps_of, part_at};
-ghost use Rattle.ds_image.specs.Readings.{SpellsBody, SpellsBits, SpellsSub, SpellsPtr, IsReading, Reads};
+ghost use Rattle.ds_image.specs.Readings.{SpellsBody, SpellsBits, SpellsSub, SpellsPtr, IsReading, ReadsParts};
 
 use crate::images::Image;
 use crate::stores::Store;
@@ -51,7 +51,7 @@ impl<'a, S: Store> Model for PartsInMemory<'a, S> {
 impl<'a, S: Store> PartsInMemory<'a, S> {
     /// Decodes all bodies and bitmaps of an image.
     pub fn read(alloc: Global, image: &'a Image<'a, S>) -> Result<PartsInMemory<'a, S>, NoMemory>
-        ensures { IfOk result (λ p. Reads image.now.geom (slice_get image.now.sectors) p) }
+        ensures { IfOk result (λ p. ReadsParts image.now.geom (slice_get image.now.sectors) p) }
     {
         // This shows that the image has all sectors in front of the file blocks.
         let _geom = image.geom();

@@ -27,7 +27,7 @@ use Rattle.ds_image.specs.Objects.{object_of, entries_of, rooms_in, subs_of, sub
 use Rattle.ds_image.specs.Owns.{IsAt}
 use Rattle.ds_image.specs.Parts.{Parts, part_at}
 use Rattle.ds_image.specs.Pending.{Pair}
-use Rattle.ds_image.specs.Readings.{Reads}
+use Rattle.ds_image.specs.Readings.{ReadsParts}
 use Rattle.ds_image.specs.Sound.{StandsFor, IsSound, IsNamedRight, sub_lists}
 use Rattle.ds_image.proofs.Journaling.LaidOver.{whole-laid_over}
 use Rattle.ds_image.proofs.Spelling.Sizes.{part_within}
@@ -177,7 +177,7 @@ module _ (g : Geom) (is : IsGeom g) (image : List Sector) (t : FileTree) (stands
   is-entry = room-is_entry ready.rewrites.before ready.rewrites.room e is-sub ready.rewrites.used
 
   -- the parts that the image then spells
-  pub renamed-reads : Reads g (slice_get after) q
+  pub renamed-reads : ReadsParts g (slice_get after) q
   renamed-reads =
       let at-sub = sub-at g image p stands.reads n ready.rewrites.before ready.rewrites.there in
       reads-sub g image p n block block_sector is at-sub.0 at-sub.1
@@ -224,7 +224,7 @@ module _ (g : Geom) (is : IsGeom g) (image : List Sector) (t : FileTree) (stands
   -- Whoever holds the directory holds the guard of the sub-block, before and after.
 
   module _ (Held : ℕ → Type 0) (held_dir : Held key.object) where
-    renamed-guarded : (look : Look) (s : Parts) → Reads g look s → IsSound s → IsAt (sub_lists s) d ready.rewrites.place n → All (GuardedBy g look Held) (targets_of renamed-pairs)
+    renamed-guarded : (look : Look) (s : Parts) → ReadsParts g look s → IsSound s → IsAt (sub_lists s) d ready.rewrites.place n → All (GuardedBy g look Held) (targets_of renamed-pairs)
     renamed-guarded look s reads sound at =
         let sub = (sub-at g image p stands.reads n ready.rewrites.before ready.rewrites.there).0 in
         All-cons (GuardedBy g look Held) (place_sector g (places.SubBlock n)) []

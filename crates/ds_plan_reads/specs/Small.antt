@@ -14,7 +14,7 @@ use Rattle.ds_fd.specs.declared.body.Body.{Body}
 use Rattle.ds_image.specs.Asking.{Reached, Start, Locked, Given, IsFew, HasForm}
 use Rattle.ds_image.specs.Parts.{Parts, part_at}
 use Rattle.ds_image.specs.Planning.{Asks}
-use Rattle.ds_image.specs.Readings.{Reads}
+use Rattle.ds_image.specs.Readings.{ReadsParts}
 use Rattle.ds_image.specs.SeenValues.{SeenValue, has_lock, look_of, sector_in, with_lock, with_sector}
 use Rattle.ds_image.specs.declared.asks.Ask.{Ask}
 use Rattle.ds_image.specs.declared.asks.Ask.TheVariants.{Lock, Read, Odd, Worn, Done, Change}
@@ -35,7 +35,7 @@ pub record IsSmall (r : Asked) (seen : SeenValue) : Type 0 where
   pub sectors : length seen.sectors ≤ 2
   pub unlocked : has_lock seen r.key.object ≡ false → (length seen.locks ≤ 1) × (length seen.sectors ≡ 0)
   pub unread : look_of seen (body_sector r) ≡ None → length seen.sectors ≡ 0
-  pub last : (p : Parts) → Reads r.geom (look_of seen) p → (at : ℕ) → answers r seen p ≡ Read at → length seen.sectors ≤ 1
+  pub last : (p : Parts) → ReadsParts r.geom (look_of seen) p → (at : ℕ) → answers r seen p ≡ Read at → length seen.sectors ≤ 1
 
 few-of : (seen : SeenValue) → length seen.locks ≤ 2 → length seen.sectors ≤ 2 → (ask : Ask) → IsFew seen ask
 few-of seen l s (Lock object) = (omega arith, omega arith)
@@ -85,9 +85,9 @@ module _ (r : Asked) where
       }
 
   -- the sector that is asked for a second time differs from the first, which was the body
-  second-read : (seen : SeenValue) (at : ℕ) (s : Sector) (q : Parts) → Reads r.geom (look_of seen) q → answers r seen q ≡ Read at
+  second-read : (seen : SeenValue) (at : ℕ) (s : Sector) (q : Parts) → ReadsParts r.geom (look_of seen) q → answers r seen q ≡ Read at
       → (first : Sector) → look_of seen (body_sector r) ≡ Some first
-      → (p : Parts) → Reads r.geom (look_of (with_sector seen at s)) p → (k : ℕ) → answers r (with_sector seen at s) p ≡ Read k → ⊥
+      → (p : Parts) → ReadsParts r.geom (look_of (with_sector seen at s)) p → (k : ℕ) → answers r (with_sector seen at s) p ≡ Read k → ⊥
   second-read seen at s q reads asked first body p reads' k asked' =
       let after : SeenValue = with_sector seen at s in
       let was = lawful r seen q reads in

@@ -22,7 +22,7 @@ use Rattle.ds_tree.specs.WellFormed.{IsDir}
 use Rattle.ds_image.specs.Looks.{Look}
 use Rattle.ds_image.specs.Objects.{subs_by, pointed_by, blocks_by, node_by, object_of, rooms_in, rooms_of, used_rooms, entries_of}
 use Rattle.ds_image.specs.Parts.{Parts, part_at}
-use Rattle.ds_image.specs.Readings.{Reads}
+use Rattle.ds_image.specs.Readings.{ReadsParts}
 use Rattle.ds_image.proofs.FileTrees.EntryNames.{pairs, find-some, get-entries}
 use Rattle.ds_image.proofs.Spelling.Sizes.{part_within}
 use Rattle.ds_image.proofs.Spelling.SoundParts.{all-at}
@@ -40,14 +40,14 @@ fewer-entries (None ∷ rooms) = omega (arith, fewer-entries rooms)
 fewer-entries (Some e ∷ rooms) = omega (arith, fewer-entries rooms)
 
 -- the rooms that are read are rooms, four in each sub-block
-rooms-by : (g : Geom) (look : Look) (p : Parts) (n : ℕ) (r : Option SubBlock) → Reads g look p → part_at p.subs n ≡ r
+rooms-by : (g : Geom) (look : Look) (p : Parts) (n : ℕ) (r : Option SubBlock) → ReadsParts g look p → part_at p.subs n ≡ r
     → All IsRoom (rooms_in r) × (length (rooms_in r) ≤ 4)
 rooms-by g look p n None reads is = (All-nil IsRoom, omega arith)
 rooms-by g look p n (Some b) reads is =
     let block : IsSubBlock b = ((reads.subs.each n (omega (arith, part_within p.subs n b is, reads.subs.len)) b).0 is).0 in
     (block.are_rooms, omega (arith, block.four))
 
-rooms-are : (g : Geom) (look : Look) (p : Parts) (subs : List ℕ) → Reads g look p
+rooms-are : (g : Geom) (look : Look) (p : Parts) (subs : List ℕ) → ReadsParts g look p
     → All IsRoom (rooms_of p subs) × (length (rooms_of p subs) ≤ 4 * length subs)
 rooms-are g look p [] reads = (All-nil IsRoom, omega arith)
 rooms-are g look p (n ∷ subs) reads =
@@ -69,7 +69,7 @@ map-length (e ∷ es) =
     ]
 
 -- a directory of at most 96 sub-blocks keeps the rules
-pub dir-rules : (g : Geom) (look : Look) (p : Parts) (b : Body) → Reads g look p → b.count ≤ 96
+pub dir-rules : (g : Geom) (look : Look) (p : Parts) (b : Body) → ReadsParts g look p → b.count ≤ 96
     → IsDir (entries_of p (subs_by b (Some kinds.Dir))) (4 * b.count)
 dir-rules g look p b reads few =
     let subs = subs_by b (Some kinds.Dir) in
@@ -87,7 +87,7 @@ dir-count : (b : Body) → IsBody b → b.kind ≡ Some kinds.Dir → b.count �
 dir-count b is kind = subst (λ k. b.count ≤ most_count k) kind is.ranges.count_to
 
 -- so do all directories that bodies spell
-dirs-by : (g : Geom) (look : Look) (p : Parts) (b : Body) (kind : Option NodeKind) (entries : Entries) (rooms : ℕ) → Reads g look p
+dirs-by : (g : Geom) (look : Look) (p : Parts) (b : Body) (kind : Option NodeKind) (entries : Entries) (rooms : ℕ) → ReadsParts g look p
     → IsBody b → b.kind ≡ kind
     → node_by p b kind ≡ Some (Dir entries rooms) → IsDir entries rooms
 dirs-by g look p b None entries rooms reads is kind node = absurd (cc)
@@ -98,7 +98,7 @@ dirs-by g look p b (Some kinds.Dir) entries rooms reads is kind node =
     subst (λ r. IsDir entries r) count (subst (λ (m : Entries). IsDir m (4 * b.count)) same rules)
 dirs-by g look p b (Some kinds.File) entries rooms reads is kind node = absurd (cc)
 
-pub dirs-of : (g : Geom) (look : Look) (p : Parts) (body : Option Body) (entries : Entries) (rooms : ℕ) → Reads g look p
+pub dirs-of : (g : Geom) (look : Look) (p : Parts) (body : Option Body) (entries : Entries) (rooms : ℕ) → ReadsParts g look p
     → ((b : Body) → body ≡ Some b → IsBody b)
     → (object_of p body).node ≡ Some (Dir entries rooms) → IsDir entries rooms
 dirs-of g look p None entries rooms reads are node = absurd (cc)

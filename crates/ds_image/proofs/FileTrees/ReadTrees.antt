@@ -7,13 +7,13 @@ use Rattle.ds_tree.specs.WellFormed.{IsTree}
 use Rattle.ds_image.specs.Objects.{tree_of}
 use Rattle.ds_image.specs.Parts.{Parts}
 use Rattle.ds_image.specs.ReadTrees.{StandsForNone}
-use Rattle.ds_image.specs.Readings.{Reads}
+use Rattle.ds_image.specs.Readings.{ReadsParts}
 use Rattle.ds_image.specs.Rooted.{IsRooted}
 use Rattle.ds_image.specs.Sound.{IsSound, StandsFor}
 use Rattle.ds_image.proofs.Spelling.Readings.{parts_same}
 use Rattle.ds_image.proofs.FileTrees.RootedTrees.{rooted-from_tree}
 
-module _ (g : Geom) (image : List Sector) (p : Parts) (reads : Reads g (slice_get image) p) where
+module _ (g : Geom) (image : List Sector) (p : Parts) (reads : ReadsParts g (slice_get image) p) where
   parts-are : (t : FileTree) (stands : StandsFor g image t) → stands.parts ≡ p
   parts-are t stands = parts_same g (slice_get image) stands.parts p stands.reads reads
 

@@ -15,7 +15,7 @@ use Rattle.ds_image.specs.Looks.{Look}
 use Rattle.ds_image.specs.Objects.{object_of, tree_of, blocks_of}
 use Rattle.ds_image.specs.Owns.{IsAt}
 use Rattle.ds_image.specs.Parts.{Parts, part_at}
-use Rattle.ds_image.specs.Readings.{Reads}
+use Rattle.ds_image.specs.Readings.{ReadsParts}
 use Rattle.ds_image.specs.Rooted.{IsRooted}
 use Rattle.ds_image.specs.Sound.{IsSound, block_lists}
 use Rattle.ds_image.proofs.FileTrees.DirNodes.{dirs-of, files-of, born-of}
@@ -26,7 +26,7 @@ use Rattle.ds_image.proofs.Spelling.Sizes.{body_is}
 use Rattle.ds_image.proofs.Spelling.SoundParts.{all-from_at, list-is}
 use Rattle.ds_image.proofs.FileTrees.TreeParts.{object-is, objects-are, node-is, blocks-are, used-at}
 
-module _ (g : Geom) (look : Look) (p : Parts) (reads : Reads g look p) (sound : IsSound p) where
+module _ (g : Geom) (look : Look) (p : Parts) (reads : ReadsParts g look p) (sound : IsSound p) where
   bodies-are : (o : ℕ) (b : Body) → part_at p.bodies o ≡ Some b → IsBody b
   bodies-are o b there = body_is g look p o b reads there
 

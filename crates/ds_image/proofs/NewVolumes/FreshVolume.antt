@@ -35,7 +35,7 @@ use Rattle.ds_image.specs.Looks.{Look, HasBytes}
 use Rattle.ds_image.specs.Metadata.{is_metadata, front_of}
 use Rattle.ds_image.specs.Parts.{maps_of}
 use Rattle.ds_image.specs.Pending.{Pair, AreOfSlot, ArePending}
-use Rattle.ds_image.specs.Readings.{SpellsSlot, SpellsBody, SpellsBits, SpellsSub, SpellsPtr, IsReading, Reads}
+use Rattle.ds_image.specs.Readings.{SpellsSlot, SpellsBody, SpellsBits, SpellsSub, SpellsPtr, IsReading, ReadsParts}
 use Rattle.ds_image.specs.Sound.{StandsFor}
 use Rattle.ds_image.proofs.NewVolumes.FreshLists.{reading_made, decoded_one, get_or-replicate_same}
 use Rattle.ds_image.proofs.NewVolumes.FreshParts.{empty_ptr, fresh_parts, fresh_sound, tree_of-fresh}
@@ -171,7 +171,7 @@ module _ (g : Geom) (volume : List ℕ) (sectors : List Sector) (is : IsGeom g) 
   maps_read Pb = reading_made (clusters_of g Pb) (SpellsBits g front Pb) (fresh_bits g Pb) (λ c l. map_spelled Pb c (omega (arith, (bounds g is).pb_clusters)) l)
   maps_read Fb = reading_made (clusters_of g Fb) (SpellsBits g front Fb) (fresh_bits g Fb) (λ c l. map_spelled Fb c (omega (arith, (bounds g is).fb_clusters)) l)
 
-  fresh_reads : Reads g front (fresh_parts g)
+  fresh_reads : ReadsParts g front (fresh_parts g)
   fresh_reads = record {
     bodies = reading_made (items_of g Fd) (SpellsBody g front) fresh_body body_spelled;
     maps = maps_read;

@@ -11,7 +11,7 @@ use Rattle.ds_bitmap.specs.Bits.{Bitmap}
 use Rattle.ds_image.specs.Looks.{Look}
 use Rattle.ds_image.specs.Owns.{Owns, IsAt}
 use Rattle.ds_image.specs.Parts.{Parts, part_at, AllSpelled, used_bits, bits_in}
-use Rattle.ds_image.specs.Readings.{SpellsBits, IsReading, Reads}
+use Rattle.ds_image.specs.Readings.{SpellsBits, IsReading, ReadsParts}
 use Rattle.ds_image.specs.Sound.{IsSound, sub_lists, ptr_lists, block_lists}
 use Rattle.ds_image.proofs.Spelling.Sizes.{length-flat_map_each}
 
@@ -35,14 +35,14 @@ listed_within lists bits o i n owns at =
     ⊎_elim (λ below. below)
     (λ past. absurd (false≢true (sym (get_or_past bits n false past) ∙ owns.marked o i n at))) (cases_lt n (length bits))
 
-pub sub_listed_within : (g : Geom) (look : Look) (p : Parts) (o i n : ℕ) → Reads g look p → IsSound p → IsAt (sub_lists p) o i n → n < items_of g Sb
+pub sub_listed_within : (g : Geom) (look : Look) (p : Parts) (o i n : ℕ) → ReadsParts g look p → IsSound p → IsAt (sub_lists p) o i n → n < items_of g Sb
 sub_listed_within g look p o i n reads sound at =
     omega (arith, listed_within (sub_lists p) (bits_in p.sb_maps) o i n sound.sub_owners at, bits_length g look Sb p.sb_maps (reads.maps Sb) (sound.maps Sb))
 
-pub ptr_listed_within : (g : Geom) (look : Look) (p : Parts) (o i n : ℕ) → Reads g look p → IsSound p → IsAt (ptr_lists p) o i n → n < items_of g Pb
+pub ptr_listed_within : (g : Geom) (look : Look) (p : Parts) (o i n : ℕ) → ReadsParts g look p → IsSound p → IsAt (ptr_lists p) o i n → n < items_of g Pb
 ptr_listed_within g look p o i n reads sound at =
     omega (arith, listed_within (ptr_lists p) (bits_in p.pb_maps) o i n sound.ptr_owners at, bits_length g look Pb p.pb_maps (reads.maps Pb) (sound.maps Pb))
 
-pub block_listed_within : (g : Geom) (look : Look) (p : Parts) (o i n : ℕ) → Reads g look p → IsSound p → IsAt (block_lists p) o i n → n < items_of g Fb
+pub block_listed_within : (g : Geom) (look : Look) (p : Parts) (o i n : ℕ) → ReadsParts g look p → IsSound p → IsAt (block_lists p) o i n → n < items_of g Fb
 block_listed_within g look p o i n reads sound at =
     omega (arith, listed_within (block_lists p) (bits_in p.fb_maps) o i n sound.block_owners at, bits_length g look Fb p.fb_maps (reads.maps Fb) (sound.maps Fb))

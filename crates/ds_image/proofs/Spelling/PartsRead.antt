@@ -15,7 +15,7 @@ use Rattle.ds_ptr.specs.declared.ptr_block.PtrBlock.{PtrBlock}
 use Rattle.ds_image.specs.ImageValues.{IsImage}
 use Rattle.ds_image.specs.Looks.{Look, HasBytes}
 use Rattle.ds_image.specs.Parts.{Parts, part_at, maps_of}
-use Rattle.ds_image.specs.Readings.{SpellsBody, SpellsBits, IsReading, Reads}
+use Rattle.ds_image.specs.Readings.{SpellsBody, SpellsBits, IsReading, ReadsParts}
 use Rattle.ds_image.specs.SpelledParts.{spelled_subs, spelled_ptrs}
 use Rattle.ds_image.proofs.Spelling.Decoded.{decoded_same, reading_push, spelled_at}
 use Rattle.ds_image.proofs.Spelling.SpellingParts.{subs-read, ptrs-read}
@@ -56,7 +56,7 @@ pub parts_read : (g : Geom) (sectors : List Sector) (bodies : List (Option Body)
     → IsReading (items_of g Fd) (SpellsBody g (slice_get sectors)) bodies → IsReading (clusters_of g Fd) (SpellsBits g (slice_get sectors) Fd) fd
     → IsReading (clusters_of g Sb) (SpellsBits g (slice_get sectors) Sb) sb → IsReading (clusters_of g Pb) (SpellsBits g (slice_get sectors) Pb) pb
     → IsReading (clusters_of g Fb) (SpellsBits g (slice_get sectors) Fb) fb
-    → Reads g (slice_get sectors) (record {
+    → ReadsParts g (slice_get sectors) (record {
       bodies = bodies;
       fd_maps = fd;
       sb_maps = sb;

@@ -26,7 +26,7 @@ use Rattle.ds_ptr.specs.declared.ptr_block.PtrBlock.{PtrBlock}
 use Rattle.ds_layout.proofs.Bounds.{bounds}
 use Rattle.ds_image.specs.Looks.{Look, AreBlocks}
 use Rattle.ds_image.specs.Parts.{Parts, maps_of}
-use Rattle.ds_image.specs.Readings.{SpellsSlot, SpellsHeader, SpellsBody, SpellsBits, SpellsSub, SpellsPtr, IsReading, Reads}
+use Rattle.ds_image.specs.Readings.{SpellsSlot, SpellsHeader, SpellsBody, SpellsBits, SpellsSub, SpellsPtr, IsReading, ReadsParts}
 use Rattle.ds_image.proofs.Spelling.Decoded.{spelled_there, numbered_there, reading_same, reading_there}
 
 pub slot_there : (g : Geom) (look : Look) (number : ℕ) → number < 256 → AreBlocks look → (r : Option Slot) × IsDecoded r (SpellsSlot g look number)
@@ -64,7 +64,7 @@ maps_there g look kind is blocks =
     reading_there (clusters_of g kind) (SpellsBits g look kind) (λ c l. bits_there g look kind c is (few_clusters g kind c is l) blocks)
 
 -- every look at sectors of 512 bytes has parts
-pub parts_there : (g : Geom) (look : Look) → IsGeom g → AreBlocks look → (p : Parts) × Reads g look p
+pub parts_there : (g : Geom) (look : Look) → IsGeom g → AreBlocks look → (p : Parts) × ReadsParts g look p
 parts_there g look is blocks =
     let bodies = reading_there (items_of g Fd) (SpellsBody g look) (λ o l. body_there g look o blocks) in
     let fd = maps_there g look Fd is blocks in
@@ -79,7 +79,7 @@ parts_there g look is blocks =
     (p, record { bodies = bodies.1; maps = maps; subs = subs.1; ptrs = ptrs.1 })
 
 -- and only these
-pub parts_same : (g : Geom) (look : Look) (p q : Parts) → Reads g look p → Reads g look q → p ≡ q
+pub parts_same : (g : Geom) (look : Look) (p q : Parts) → ReadsParts g look p → ReadsParts g look q → p ≡ q
 parts_same g look p q r s =
     let bodies = reading_same (items_of g Fd) (SpellsBody g look) p.bodies q.bodies r.bodies s.bodies in
     let maps : (kind : Kind) → maps_of p kind ≡ maps_of q kind = λ kind. reading_same (clusters_of g kind) (SpellsBits g look kind) (maps_of p kind) (maps_of q kind) (r.maps kind) (s.maps kind) in

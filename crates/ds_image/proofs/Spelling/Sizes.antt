@@ -14,7 +14,7 @@ use Rattle.ds_image.specs.Looks.{Look}
 use Rattle.ds_image.specs.Objects.{addresses_in, ptrs_by, ptrs_of, pointed_by, blocks_by}
 use Rattle.ds_image.specs.Owns.{IsAt, list_of}
 use Rattle.ds_image.specs.Parts.{Parts, part_at}
-use Rattle.ds_image.specs.Readings.{Reads}
+use Rattle.ds_image.specs.Readings.{ReadsParts}
 use Rattle.ds_image.specs.Sound.{IsSound, ptr_lists}
 
 -- a part that is there has a number below the count
@@ -23,12 +23,12 @@ part_within xs i v there =
     ⊎_elim (λ below. below) (λ past. let none : None ≡ Some v = sym (get_or_past xs i None past) ∙ there in absurd cc) (cases_lt i (length xs))
 
 -- what a body that is there spells
-pub body_is : (g : Geom) (look : Look) (p : Parts) (o : ℕ) (b : Body) → Reads g look p → part_at p.bodies o ≡ Some b → IsBody b
+pub body_is : (g : Geom) (look : Look) (p : Parts) (o : ℕ) (b : Body) → ReadsParts g look p → part_at p.bodies o ≡ Some b → IsBody b
 body_is g look p o b reads there =
     ((reads.bodies.each o (omega (arith, part_within p.bodies o b there, reads.bodies.len)) b).0 there).1
 
 -- a pointer block that is there has 128 addresses
-pub ptr_length : (g : Geom) (look : Look) (p : Parts) (n : ℕ) (r : Option PtrBlock) → Reads g look p → part_at p.ptrs n ≡ r → IsSome r → length (addresses_in r) ≡ 128
+pub ptr_length : (g : Geom) (look : Look) (p : Parts) (n : ℕ) (r : Option PtrBlock) → ReadsParts g look p → part_at p.ptrs n ≡ r → IsSome r → length (addresses_in r) ≡ 128
 ptr_length g look p n None reads e some = absurd (false≢true some)
 ptr_length g look p n (Some b) reads e some =
     ((reads.ptrs.each n (omega (arith, part_within p.ptrs n b e, reads.ptrs.len)) b).0 e).0.count
@@ -53,7 +53,7 @@ many_pointers n h =
     (cases_lt 96 n)
 
 -- so the addresses in its pointer blocks are as many as its count, or more
-pointed_enough : (g : Geom) (look : Look) (p : Parts) (o : ℕ) (b : Body) → Reads g look p → IsSound p → part_at p.bodies o ≡ Some b → b.kind ≡ Some kinds.File → nat_le b.count 96 ≡ false → b.count ≤ length (pointed_by p b (Some kinds.File))
+pointed_enough : (g : Geom) (look : Look) (p : Parts) (o : ℕ) (b : Body) → ReadsParts g look p → IsSound p → part_at p.bodies o ≡ Some b → b.kind ≡ Some kinds.File → nat_le b.count 96 ≡ false → b.count ≤ length (pointed_by p b (Some kinds.File))
 pointed_enough g look p o b reads sound there kind large =
     let is = body_is g look p o b reads there in
     let most : b.count ≤ 12288 = subst (λ k. b.count ≤ most_count k) kind is.ranges.count_to in
@@ -67,7 +67,7 @@ pointed_enough g look p o b reads sound there kind large =
     omega (arith, all, listed, count)
 
 -- a file's node has as many blocks as its body counts
-pub file_size : (g : Geom) (look : Look) (p : Parts) (o : ℕ) (b : Body) → Reads g look p → IsSound p → part_at p.bodies o ≡ Some b → b.kind ≡ Some kinds.File → length (blocks_by p b (Some kinds.File)) ≡ b.count
+pub file_size : (g : Geom) (look : Look) (p : Parts) (o : ℕ) (b : Body) → ReadsParts g look p → IsSound p → part_at p.bodies o ≡ Some b → b.kind ≡ Some kinds.File → length (blocks_by p b (Some kinds.File)) ≡ b.count
 file_size g look p o b reads sound there kind =
     let is = body_is g look p o b reads there in
     let chosen : Bool → ℕ = λ test. length (take b.count (if test then b.addresses else pointed_by p b (Some kinds.File))) in

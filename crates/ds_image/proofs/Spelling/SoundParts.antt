@@ -14,7 +14,7 @@ use Rattle.ds_image.specs.Looks.{Look}
 use Rattle.ds_image.specs.Objects.{subs_of, ptrs_of, used_rooms}
 use Rattle.ds_image.specs.Owns.{IsAt, list_of}
 use Rattle.ds_image.specs.Parts.{Parts, part_at, AllSpelled, maps_of}
-use Rattle.ds_image.specs.Readings.{Reads}
+use Rattle.ds_image.specs.Readings.{ReadsParts}
 use Rattle.ds_image.specs.Sound.{IsSound, IsNamedRight}
 use Rattle.ds_image.specs.SoundObjects.{IsSoundObject, IsMarked, HasShortRows}
 use Rattle.ds_image.proofs.Ownership.Listed.{bits_length}
@@ -25,7 +25,7 @@ few Sb = lit< tt
 few Pb = lit< tt
 few Fb = lit< tt
 
-pub short_rows : (g : Geom) (look : Look) (p : Parts) → IsGeom g → Reads g look p → ((kind : Kind) → AllSpelled (maps_of p kind))
+pub short_rows : (g : Geom) (look : Look) (p : Parts) → IsGeom g → ReadsParts g look p → ((kind : Kind) → AllSpelled (maps_of p kind))
     → HasShortRows p
 short_rows g look p is reads all kind =
     omega (arith, bits_length g look kind (maps_of p kind) (reads.maps kind) (all kind), most_items_of g kind is, few kind)
