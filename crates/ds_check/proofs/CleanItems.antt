@@ -17,7 +17,7 @@ use Rattle.ds_image.specs.Parts.{Parts, part_at, maps_of, bits_in, AllSpelled}
 use Rattle.ds_image.specs.Readings.{ReadsParts}
 use Rattle.ds_image.specs.SoundObjects.{IsMarked}
 use Rattle.ds_image.specs.Users.{users, uses_by}
-use Rattle.ds_image.specs.Users as usage
+use Rattle.ds_image.proofs.Ownership.OwningUsers as usage
 use Rattle.ds_image.proofs.Ownership.Listed.{bits_length}
 use Rattle.ds_image.proofs.Ownership.OwningUsers.{owns-from_users, AreUsedOnce}
 use Rattle.ds_image.proofs.Spelling.Places.{marked-within}
@@ -25,7 +25,7 @@ use Rattle.ds_image.proofs.Spelling.SoundParts.{list-is}
 use Rattle.ds_check.specs.declared.findings.Find.{Find}
 use Rattle.ds_check.specs.declared.findings.Find.TheVariants.{Marked, Unmarked}
 use Rattle.ds_check.specs.Unreached.{times}
-use Rattle.ds_check.specs.Uses.{listed_by, uses_of}
+use Rattle.ds_check.specs.Uses.{items_by, uses_of}
 use Rattle.ds_check.specs.Sharing.{twice, shared_items, sharing_stage}
 use Rattle.ds_check.specs.Marking.{is_in_use, is_marked, mismarked, marking_stage}
 use Rattle.ds_check.specs.Rows.{find_if, row}
@@ -140,13 +140,13 @@ module _ (g : Geom) (look : Look) (p : Parts) (reads : ReadsParts g look p) (map
       few-users kind n (users (uses_of g p kind) n)
       (row-none (items_of g kind) (λ n. twice kind n (users (uses_of g p kind) n)) (each_kind (shared_items g p) kind sharing) n within)
 
-  owners : (kind : Kind) → listed_by p kind None ≡ [] → ((n : ℕ) → is_in_use g p kind n ≡ nat_lt 0 (length (users (uses_of g p kind) n)))
-      → ((o i n : ℕ) → slice_get (listed_by p kind (part_at p.bodies o)) i ≡ Some n → n < items_of g kind)
-      → Owns (map (listed_by p kind) p.bodies) (bits_in (maps_of p kind))
+  owners : (kind : Kind) → items_by p kind None ≡ [] → ((n : ℕ) → is_in_use g p kind n ≡ nat_lt 0 (length (users (uses_of g p kind) n)))
+      → ((o i n : ℕ) → slice_get (items_by p kind (part_at p.bodies o)) i ≡ Some n → n < items_of g kind)
+      → Owns (map (items_by p kind) p.bodies) (bits_in (maps_of p kind))
   owners kind nothing in_use inside =
-      let lists = map (listed_by p kind) p.bodies in
-      let listed : ℕ → List ℕ = λ o. listed_by p kind (part_at p.bodies o) in
-      let uses : usage.uses_of lists ≡ uses_of g p kind = uses-same (listed_by p kind) p.bodies (items_of g Fd) nothing reads.bodies.len in
+      let lists = map (items_by p kind) p.bodies in
+      let listed : ℕ → List ℕ = λ o. items_by p kind (part_at p.bodies o) in
+      let uses : usage.uses_of lists ≡ uses_of g p kind = uses-same (items_by p kind) p.bodies (items_of g Fd) nothing reads.bodies.len in
       let count : (x : ℕ) → length (users (usage.uses_of lists) x) ≡ length (users (uses_of g p kind) x) = λ x. ap (λ us. length (users us x)) uses in
       owns-from_users lists (bits_in (maps_of p kind))
       (once-from lists (bits_in (maps_of p kind)) (items_of g kind)

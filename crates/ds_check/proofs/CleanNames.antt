@@ -25,7 +25,7 @@ use Rattle.ds_image.specs.Rooted.{named_bits}
 use Rattle.ds_image.specs.Sound.{IsNamedRight, rooms_used_by}
 use Rattle.ds_image.specs.SoundObjects.{AreNamesApart}
 use Rattle.ds_image.specs.Users.{users}
-use Rattle.ds_image.specs.Users as usage
+use Rattle.ds_image.proofs.Ownership.OwningUsers as usage
 use Rattle.ds_image.proofs.FileTrees.NamesApart.{apart-none}
 use Rattle.ds_image.proofs.Ownership.OwningUsers.{owns-from_users, AreUsedOnce}
 use Rattle.ds_image.proofs.FileTrees.RootedTrees.{named_bit}

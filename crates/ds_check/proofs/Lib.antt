@@ -4,7 +4,6 @@ pub mod CleanMetadata
 pub mod CleanNames
 pub mod CleanTrees
 pub mod EntryRooms
-pub mod FirstFound
 pub mod ItemMarks
 pub mod ItemUsers
 pub mod LastAddresses

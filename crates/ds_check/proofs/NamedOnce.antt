@@ -19,7 +19,7 @@ use Rattle.ds_image.specs.Parents.{parent_of}
 use Rattle.ds_image.specs.Parts.{Parts, part_at}
 use Rattle.ds_image.proofs.Parenthood.TreeParents.{AreParentsIn}
 use Rattle.ds_image.proofs.Parenthood.ReachedObjects.{used-within}
-use Rattle.ds_check.specs.Unreached.{named_by, times, AreNamers}
+use Rattle.ds_check.specs.Unreached.{named_at, times, AreNamers}
 use Rattle.ds_check.specs.declared.findings.Find.TheVariants.{Dangling, Again}
 use Rattle.ds_check.specs.declared.findings.Find.TheVariants as finds
 use Rattle.ds_check.specs.Entries.{dangling_room, dangling_in, repeated_room, repeated_in, same_kind, is_body_of, is_dangling, has_name, is_named_in, rooms_at, dangling, repeated}
@@ -31,23 +31,23 @@ use Rattle.ds_check.proofs.TreeRooms.{name-found}
 
 -- how often an object is named
 
-times-more : (p : Parts) (o n : ℕ) → times o (named_below p (n + 1)) ≡ times o (named_below p n) + times o (named_by p n)
-times-more p o n = ap (times o) (named-more p n) ∙ sum_by-append (λ x. cond (eqb x o) 1 0) (named_below p n) (named_by p n)
+times-more : (p : Parts) (o n : ℕ) → times o (named_below p (n + 1)) ≡ times o (named_below p n) + times o (named_at p n)
+times-more p o n = ap (times o) (named-more p n) ∙ sum_by-append (λ x. cond (eqb x o) 1 0) (named_below p n) (named_at p n)
 
-times-suc : (p : Parts) (o n : ℕ) → times o (named_below p (suc n)) ≡ times o (named_below p n) + times o (named_by p n)
+times-suc : (p : Parts) (o n : ℕ) → times o (named_below p (suc n)) ≡ times o (named_below p n) + times o (named_at p n)
 times-suc p o n = ap (λ k. times o (named_below p k)) (let next : suc n ≡ n + 1 = omega arith in next) ∙ times-more p o n
 
-below-one : (p : Parts) (o dir n : ℕ) → dir < n → times o (named_by p dir) ≤ times o (named_below p n)
+below-one : (p : Parts) (o dir n : ℕ) → dir < n → times o (named_at p dir) ≤ times o (named_below p n)
 below-one p o dir zero within = absurd (omega (arith, within))
 below-one p o dir (suc n) within = elim (cases_eq dir n) [
-  | inl same ↦ omega (arith, times-suc p o n, ap (λ d. times o (named_by p d)) same)
+  | inl same ↦ omega (arith, times-suc p o n, ap (λ d. times o (named_at p d)) same)
   | inr other ↦ omega (arith, times-suc p o n, below-one p o dir n (omega (arith, within, other)))
 ]
 
-below-two : (p : Parts) (o dir dir' n : ℕ) → dir < dir' → dir' < n → times o (named_by p dir) + times o (named_by p dir') ≤ times o (named_below p n)
+below-two : (p : Parts) (o dir dir' n : ℕ) → dir < dir' → dir' < n → times o (named_at p dir) + times o (named_at p dir') ≤ times o (named_below p n)
 below-two p o dir dir' zero less within = absurd (omega (arith, within))
 below-two p o dir dir' (suc n) less within = elim (cases_eq dir' n) [
-  | inl same ↦ omega (arith, times-suc p o n, ap (λ d. times o (named_by p d)) same, below-one p o dir n (omega (arith, less, same)))
+  | inl same ↦ omega (arith, times-suc p o n, ap (λ d. times o (named_at p d)) same, below-one p o dir n (omega (arith, less, same)))
   | inr other ↦ omega (arith, times-suc p o n, below-two p o dir dir' n less (omega (arith, within, other)))
 ]
 
@@ -126,7 +126,7 @@ module _ (g : Geom) (p : Parts) (count : length p.bodies ≡ items_of g Fd) (non
 
   -- no two directories name an object
   one-namer : (o dir dir' : ℕ) → names_of g p o ≡ 1 → dir < items_of g Fd → dir' < items_of g Fd
-      → 1 ≤ times o (named_by p dir) → 1 ≤ times o (named_by p dir') → dir ≡ dir'
+      → 1 ≤ times o (named_at p dir) → 1 ≤ times o (named_at p dir') → dir ≡ dir'
   one-namer o dir dir' once there there' names names' = elim (cases_eq dir dir') [
     | inl same ↦ same
     | inr other ↦ elim (cases_lt dir dir') [
@@ -149,7 +149,7 @@ module _ (g : Geom) (p : Parts) (count : length p.bodies ≡ items_of g Fd) (non
 
   -- what is named in the tree is named by a room, and in use
   names-room : (dir o : ℕ) (name : List ℕ) → Names (tree_of p) dir name o
-      → (dir < items_of g Fd) × (1 ≤ times o (named_by p dir)) × (is_used (part_at p.bodies o) ≡ true)
+      → (dir < items_of g Fd) × (1 ≤ times o (named_at p dir)) × (is_used (part_at p.bodies o) ≡ true)
   names-room dir o name names =
       let found = room-found (rooms_at p dir) name o (sym (name-found p dir name) ∙ names) in
       let r = found.0 in
@@ -165,7 +165,7 @@ module _ (g : Geom) (p : Parts) (count : length p.bodies ≡ items_of g Fd) (non
       )
 
   module _ (parents : List (Option ℕ)) (len : length parents ≡ items_of g Fd) (are : AreNamers p (items_of g Fd) parents) where
-    only-parent : (dir o : ℕ) → o ≢ 0 → dir < items_of g Fd → 1 ≤ times o (named_by p dir) → is_used (part_at p.bodies o) ≡ true
+    only-parent : (dir o : ℕ) → o ≢ 0 → dir < items_of g Fd → 1 ≤ times o (named_at p dir) → is_used (part_at p.bodies o) ≡ true
         → (r : Option ℕ) → parent_of parents o ≡ r → parent_of parents o ≡ Some dir
     only-parent dir o other there named used None is =
         let below : o < items_of g Fd = omega (arith, count, used-within p o used) in

@@ -18,8 +18,8 @@ abbrev pub unreached_at : Parts → List Bool → ℕ → List Find
 unreached_at p reached o = find_if (is_unreached p reached o) (Lost o)
 
 -- the objects that a directory names, as often as it does
-abbrev pub named_by : Parts → ℕ → List ℕ
-named_by p dir = filter_map (named_in p) (rooms_at p dir)
+abbrev pub named_at : Parts → ℕ → List ℕ
+named_at p dir = filter_map (named_in p) (rooms_at p dir)
 
 -- how often an object stands in a list
 abbrev pub times : ℕ → List ℕ → ℕ
@@ -31,12 +31,12 @@ set_named parents None dir = parents
 set_named parents (Some o) dir = slice_set parents o (Some dir)
 
 -- just these objects get this parent
-pub record SetsParents (old : List (Option ℕ)) (named : List ℕ) (dir : ℕ) (new : List (Option ℕ)) : Type 0 where
+pub record GivesParents (old : List (Option ℕ)) (named : List ℕ) (dir : ℕ) (new : List (Option ℕ)) : Type 0 where
   pub count : length new ≡ length old
   pub from : (o parent : ℕ) → parent_of new o ≡ Some parent → ((parent ≡ dir) × (1 ≤ times o named)) ⊎ (parent_of old o ≡ Some parent)
   pub none : (o : ℕ) → parent_of new o ≡ None → (parent_of old o ≡ None) × (o < length old → times o named ≡ 0)
 
 -- an object's parent is one of the first n directories that names it, and what has none is named by none of them
 pub record AreNamers (p : Parts) (n : ℕ) (parents : List (Option ℕ)) : Type 0 where
-  pub named : (o dir : ℕ) → parent_of parents o ≡ Some dir → (dir < n) × (1 ≤ times o (named_by p dir))
-  pub none : (o dir : ℕ) → o < length parents → dir < n → parent_of parents o ≡ None → times o (named_by p dir) ≡ 0
+  pub named : (o dir : ℕ) → parent_of parents o ≡ Some dir → (dir < n) × (1 ≤ times o (named_at p dir))
+  pub none : (o dir : ℕ) → o < length parents → dir < n → parent_of parents o ≡ None → times o (named_at p dir) ≡ 0

@@ -1,18 +1,12 @@
 //! The check of sectors.
-ghost use Rattle.std.specs.Prelude.{◌≡◌, List, [], ◌∷◌, Result, OnOk, IfOk, IfErr, length};
+ghost use Rattle.std.specs.Prelude.{◌≡◌, List, [], Result, IfOk, IfErr, length};
 ghost use Rattle.ds_base.specs.Geometry.{IsGeom, items_of};
 ghost use Rattle.ds_image.specs.BadSectors.{HasNoBad};
 ghost use Rattle.ds_layout.specs.Places.{total_of};
 ghost use Rattle.ds_check.specs.Checks.{AreFindingsOf, IsCheckFault, IsCheckAnswer, OrNoMemory, StandsForTree, VolumeStands};
 ghost use Rattle.ds_check.specs.declared.checking.CheckFault.{CheckFault};
 ghost use Rattle.ds_check.specs.declared.findings.Find.{Find};
-ghost use Rattle.ds_check.specs.Findings.{found_in, AreFindings, AreFoundBehind, AreFoundIn, AreFoundOrLost};
-ghost use Rattle.ds_check.specs.Metadata.{metadata_stage};
-ghost use Rattle.ds_check.specs.Addresses.{addresses_stage};
-ghost use Rattle.ds_check.specs.Sharing.{sharing_stage};
-ghost use Rattle.ds_check.specs.Marking.{marking_stage};
-ghost use Rattle.ds_check.specs.Names.{naming_stage};
-ghost use Rattle.ds_check.specs.Rows.{first_found};
+ghost use Rattle.ds_check.specs.Findings.{AreFindings, AreFoundBehind, AreFoundIn};
 
 use crate::addresses::note_addresses;
 use crate::fronts::found_in_front;
@@ -24,7 +18,7 @@ use crate::sharing::note_sharing;
 use crate::unreached::note_lost;
 use crate::volumes::volume_in;
 use ds_base::{Geom, Kind, NoMemory, Sector, SectorNo};
-use ds_image::{ImageFault, PartsInMemory, bits_in, overlay};
+use ds_image::{ImageFault, PartsInMemory, overlay};
 use std::alloc::Global;
 use thiserror::Error;
 use uuid::Uuid;
@@ -104,7 +98,7 @@ fn found_behind(alloc: Global, geom: &Geom, sectors: &[Sector]) -> Result<Report
     }
 }
 
-/// What is found in the parts of the logical image.
+/// What is found in the parts of the logical image: by the first stage that finds something.
 fn found_in(
     alloc: Global,
     geom: &Geom,
@@ -116,95 +110,24 @@ fn found_in(
 {
     let mut report = Report::new(alloc);
     note_metadata(&mut report, geom, parts)?;
-    note_addresses_next(&mut report, geom, parts)?;
-    note_sharing_next(&mut report, alloc, geom, parts)?;
-    note_marking_next(&mut report, alloc, geom, parts)?;
-    note_naming_next(&mut report, alloc, geom, parts)?;
-    note_lost_next(&mut report, alloc, geom, parts)?;
-    Ok(report)
-}
-
-/// Notes what is at odds in addresses and rooms, where nothing was found before.
-fn note_addresses_next(
-    report: &mut Report,
-    geom: &Geom,
-    parts: &PartsInMemory<&[Sector]>,
-) -> Result<(), NoMemory>
-    ensures { OnOk result (report.new ≡ first_found (report.old ∷ addresses_stage geom.now parts.now ∷ [])) }
-{
-    if report.is_empty() {
-        note_addresses(report, geom, parts)
-    } else {
-        Ok(())
-    }
-}
-
-/// Notes the items that are listed twice, where nothing was found before.
-fn note_sharing_next(
-    report: &mut Report,
-    alloc: Global,
-    geom: &Geom,
-    parts: &PartsInMemory<&[Sector]>,
-) -> Result<(), NoMemory>
-    ensures { OnOk result (report.new ≡ first_found (report.old ∷ sharing_stage geom.now parts.now ∷ [])) }
-{
-    if report.is_empty() {
-        note_sharing(report, alloc, geom, parts)
-    } else {
-        Ok(())
-    }
-}
-
-/// Notes the items whose bits differ from their use, where nothing was found before.
-fn note_marking_next(
-    report: &mut Report,
-    alloc: Global,
-    geom: &Geom,
-    parts: &PartsInMemory<&[Sector]>,
-) -> Result<(), NoMemory>
-    ensures { OnOk result (report.new ≡ first_found (report.old ∷ marking_stage geom.now parts.now ∷ [])) }
-{
     if !report.is_empty() {
-        return Ok(());
+        return Ok(report);
     }
-    let fds = bits_in(alloc, parts.maps(Kind::Fd))?;
-    let sbs = bits_in(alloc, parts.maps(Kind::Sb))?;
-    let pbs = bits_in(alloc, parts.maps(Kind::Pb))?;
-    let fbs = bits_in(alloc, parts.maps(Kind::Fb))?;
-    note_marking(report, alloc, geom, parts, &fds, &sbs, &pbs, &fbs)
-}
-
-/// Notes what is at odds in entries and names, where nothing was found before.
-fn note_naming_next(
-    report: &mut Report,
-    alloc: Global,
-    geom: &Geom,
-    parts: &PartsInMemory<&[Sector]>,
-) -> Result<(), NoMemory>
-    requires { IsGeom geom.now }
-    ensures { OnOk result (report.new ≡ first_found (report.old ∷ naming_stage geom.now parts.now ∷ [])) }
-{
+    note_addresses(&mut report, geom, parts)?;
+    if !report.is_empty() {
+        return Ok(report);
+    }
+    note_sharing(&mut report, alloc, geom, parts)?;
+    if !report.is_empty() {
+        return Ok(report);
+    }
+    note_marking(&mut report, alloc, geom, parts)?;
+    if !report.is_empty() {
+        return Ok(report);
+    }
+    note_naming(&mut report, alloc, geom, parts)?;
     if report.is_empty() {
-        note_naming(report, alloc, geom, parts)
-    } else {
-        Ok(())
+        note_lost(&mut report, alloc, geom, parts)?;
     }
-}
-
-/// Notes the objects that are lost, where nothing was found before.
-fn note_lost_next(
-    report: &mut Report,
-    alloc: Global,
-    geom: &Geom,
-    parts: &PartsInMemory<&[Sector]>,
-) -> Result<(), NoMemory>
-    requires count { length parts.now.bodies ≡ items_of geom.now Kind.Fd }
-    requires found { report.old ≡ found_in geom.now parts.now }
-    ensures { OnOk result (AreFoundOrLost parts.now report.old report.new) }
-{
-    if report.is_empty() {
-        note_lost(report, alloc, geom, parts)
-    } else {
-        Ok(())
-    }
+    Ok(report)
 }

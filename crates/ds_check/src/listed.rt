@@ -1,7 +1,7 @@
 //! The items that the objects of an image list.
 ghost use Rattle.std.specs.Prelude.{◌≡◌, IfOk};
 ghost use Rattle.ds_image.specs.Parts.{part_at};
-ghost use Rattle.ds_check.specs.Uses.{listed_by};
+ghost use Rattle.ds_check.specs.Uses.{items_by};
 
 use ds_base::{Kind, NoMemory, ObjNo, Sector};
 use ds_fd::Body;
@@ -19,13 +19,13 @@ pub(crate) fn body_at<'a>(parts: &'a PartsInMemory<&[Sector]>, object: ObjNo) ->
 }
 
 /// The items of a kind that an object lists.
-pub(crate) fn listed_by(
+pub(crate) fn items_by(
     alloc: Global,
     parts: &PartsInMemory<&[Sector]>,
     kind: Kind,
     body: &Option<Body>,
 ) -> Result<Vec<u32>, NoMemory>
-    ensures { IfOk result (λ v. v.items ≡ listed_by parts.now kind body.now) }
+    ensures { IfOk result (λ v. v.items ≡ items_by parts.now kind body.now) }
 {
     match kind {
         Kind::Fd => Ok(Vec::new(alloc)),

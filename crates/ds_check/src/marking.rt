@@ -4,7 +4,7 @@ ghost use Rattle.std.specs.List.{range_with_len};
 ghost use Rattle.ds_base.specs.Geometry.{items_of};
 ghost use Rattle.ds_image.specs.Objects.{is_used};
 ghost use Rattle.ds_image.specs.Owns.{bit};
-ghost use Rattle.ds_image.specs.Parts.{part_at, bits_in, maps_of};
+ghost use Rattle.ds_image.specs.Parts.{part_at};
 ghost use Rattle.ds_image.specs.Users.{users};
 ghost use Rattle.ds_check.specs.declared.findings.Find.TheVariants as finds;
 ghost use Rattle.ds_check.specs.Uses.{uses_of};
@@ -18,46 +18,38 @@ use crate::reports::Report;
 use crate::uses::{item_count, users_of};
 use ds_base::{Geom, Kind, NoMemory, Sector};
 use ds_fd::Body;
-use ds_image::PartsInMemory;
+use ds_image::{PartsInMemory, bits_in};
 use std::alloc::Global;
 
-/// Notes the items that are marked and not used, or used and not marked, kind by kind; the lists are the bits of each kind's bitmaps.
+/// Notes the items that are marked and not used, or used and not marked, kind by kind.
 pub(crate) fn note_marking(
     report: &mut Report,
     alloc: Global,
     geom: &Geom,
     parts: &PartsInMemory<&[Sector]>,
-    fd_bits: &[bool],
-    sb_bits: &[bool],
-    pb_bits: &[bool],
-    fb_bits: &[bool],
 ) -> Result<(), NoMemory>
-    requires fds { fd_bits.now ≡ bits_in parts.now.fd_maps }
-    requires sbs { sb_bits.now ≡ bits_in parts.now.sb_maps }
-    requires pbs { pb_bits.now ≡ bits_in parts.now.pb_maps }
-    requires fbs { fb_bits.now ≡ bits_in parts.now.fb_maps }
     ensures { OnOk result (report.new ≡ report.old ++ marking_stage geom.now parts.now) }
 {
-    note_mismarked(report, alloc, geom, parts, Kind::Fd, fd_bits)?;
-    note_mismarked(report, alloc, geom, parts, Kind::Sb, sb_bits)?;
-    note_mismarked(report, alloc, geom, parts, Kind::Pb, pb_bits)?;
-    note_mismarked(report, alloc, geom, parts, Kind::Fb, fb_bits)
+    note_mismarked(report, alloc, geom, parts, Kind::Fd)?;
+    note_mismarked(report, alloc, geom, parts, Kind::Sb)?;
+    note_mismarked(report, alloc, geom, parts, Kind::Pb)?;
+    note_mismarked(report, alloc, geom, parts, Kind::Fb)
 }
 
+/// Notes those of one kind, by the bits of its bitmaps.
 fn note_mismarked(
     report: &mut Report,
     alloc: Global,
     geom: &Geom,
     parts: &PartsInMemory<&[Sector]>,
     kind: Kind,
-    marked: &[bool],
 ) -> Result<(), NoMemory>
-    requires { marked.now ≡ bits_in (maps_of parts.now kind) }
     ensures { OnOk result (report.new ≡ report.old ++ mismarked geom.now parts.now kind) }
 {
+    let marked = bits_in(alloc, parts.maps(kind))?;
     let used = used_of(alloc, geom, parts, kind)?;
-    note_marked(report, geom, kind, marked, &used)?;
-    note_unmarked(report, geom, kind, marked, &used)
+    note_marked(report, geom, kind, &marked, &used)?;
+    note_unmarked(report, geom, kind, &marked, &used)
 }
 
 fn note_marked(

@@ -4,7 +4,7 @@ ghost use Rattle.std.specs.List.{filter_map};
 ghost use Rattle.ds_base.specs.Geometry.{items_of};
 ghost use Rattle.ds_check.specs.declared.findings.Find.{Find};
 ghost use Rattle.ds_check.specs.Findings.{AreLost};
-ghost use Rattle.ds_check.specs.Unreached.{is_unreached, unreached_at, set_named, SetsParents, AreNamers};
+ghost use Rattle.ds_check.specs.Unreached.{is_unreached, unreached_at, set_named, GivesParents, AreNamers};
 ghost use Rattle.ds_check.specs.Names.{named_in, naming_stage};
 ghost use Rattle.ds_check.specs.Rows.{row};
 
@@ -61,7 +61,7 @@ fn set_parents(
     rooms: &[Option<Entry>],
     dir: ObjNo,
 )
-    ensures { SetsParents parents.old (filter_map (named_in parts.now) rooms.now) dir parents.new }
+    ensures { GivesParents parents.old (filter_map (named_in parts.now) rooms.now) dir parents.new }
 {
     for room in rooms {
         set_parent(parents, named_in(parts, room), dir);

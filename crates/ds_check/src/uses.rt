@@ -3,10 +3,10 @@ ghost use Rattle.std.specs.Prelude.{◌≡◌, ◌++◌, ◌∷◌, [], ℕ, Lis
 ghost use Rattle.ds_base.specs.Geometry.{items_of};
 ghost use Rattle.ds_image.specs.Parts.{part_at};
 ghost use Rattle.ds_image.specs.Users.{uses_by, KnowsUsers};
-ghost use Rattle.ds_check.specs.Uses.{listed_by, uses_of};
+ghost use Rattle.ds_check.specs.Uses.{items_by, uses_of};
 
 use crate::controls::descriptor_count;
-use crate::listed::{body_at, listed_by};
+use crate::listed::{body_at, items_by};
 use ds_base::{Geom, Kind, NoMemory, ObjNo, Sector};
 use ds_image::{PartsInMemory, Users};
 use std::alloc::Global;
@@ -24,7 +24,7 @@ pub(crate) fn users_of(
     let count = item_count(geom, kind);
     let mut table = Users::new(alloc, count)?;
     for object in 0..descriptor_count(geom) {
-        let items = listed_by(alloc, parts, kind, body_at(parts, object))?;
+        let items = items_by(alloc, parts, kind, body_at(parts, object))?;
         note_uses(&mut table, count, &items, object);
     }
     Ok(table)

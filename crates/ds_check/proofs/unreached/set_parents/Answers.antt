@@ -2,7 +2,7 @@
 use Rattle.std.proofs.Common.{◌≡◌, ◌+◌, ◌++◌, [], ◌∷◌, None, take, get_or, sym, ap, subst, ◌∙◌}
 use Rattle.std.proofs.lemmas.List.{get_or_default}
 use Rattle.std.specs.List.{filter_map}
-use Rattle.ds_check.specs.Unreached.{SetsParents, set_named}
+use Rattle.ds_check.specs.Unreached.{GivesParents, set_named}
 use Rattle.ds_check.specs.Names.{named_in}
 use Rattle.ds_check.proofs.NamedRooms.{kept-more}
 use Rattle.ds_check.proofs.NamingParents.{sets-none, sets-room}
@@ -20,9 +20,9 @@ loop-room-preserved c =
     let old = c.args.parents.now in
     let dir = c.args.dir in
     let room : c.room-item.result ≡ get_or rooms i None = c.room-item.is ∙ get_or_default rooms i _ None within in
-    let set : SetsParents old (filter_map names (take i rooms) ++ filter_map names (c.room-item.result ∷ [])) dir (set_named c.loop-room.parents c.named_in.result dir) =
+    let set : GivesParents old (filter_map names (take i rooms) ++ filter_map names (c.room-item.result ∷ [])) dir (set_named c.loop-room.parents c.named_in.result dir) =
     sets-room names c.room-item.result old (filter_map names (take i rooms)) dir c.loop-room.parents c.named_in.result (sym c.named_in.ensures) c.loop-room.invariant in
     let more : filter_map names (take i rooms) ++ filter_map names (c.room-item.result ∷ []) ≡ filter_map names (take (i + 1) rooms) =
     ap (λ r. filter_map names (take i rooms) ++ filter_map names (r ∷ [])) room ∙ kept-more names [] rooms i None within in
-    subst (λ new. SetsParents old (filter_map names (take (i + 1) rooms)) dir new) (sym c.set_parent.ensures)
-    (subst (λ l. SetsParents old l dir (set_named c.loop-room.parents c.named_in.result dir)) more set)
+    subst (λ new. GivesParents old (filter_map names (take (i + 1) rooms)) dir new) (sym c.set_parent.ensures)
+    (subst (λ l. GivesParents old l dir (set_named c.loop-room.parents c.named_in.result dir)) more set)

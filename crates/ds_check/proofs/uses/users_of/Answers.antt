@@ -3,7 +3,7 @@ use Rattle.std.proofs.Common.{◌≡◌, ℕ, ◌++◌, ap, subst, ◌∙◌}
 use Rattle.std.specs.List.{flat_map, range_with_len}
 use Rattle.ds_image.specs.Parts.{part_at}
 use Rattle.ds_image.specs.Users.{uses_by, KnowsUsers}
-use Rattle.ds_check.specs.Uses.{listed_by}
+use Rattle.ds_check.specs.Uses.{items_by}
 use Rattle.ds_check.proofs.ItemUsers.{objects-more}
 use Rattle.ds_check.proofs.uses.users_of.Goals as goal
 
@@ -11,9 +11,9 @@ pub loop-object-preserved : goal.loop-object-preserved
 loop-object-preserved c =
     let p = c.args.parts.now in
     let o = c.loop-object.object in
-    let each = λ (n : ℕ). uses_by n (listed_by p c.args.kind (part_at p.bodies n)) in
-    let items : c.deref.result.now ≡ listed_by p c.args.kind (part_at p.bodies o) =
-    c.deref.ensures.value ∙ c.in_ok-items.ensures ∙ ap (listed_by p c.args.kind) c.body_at.ensures in
+    let each = λ (n : ℕ). uses_by n (items_by p c.args.kind (part_at p.bodies n)) in
+    let items : c.deref.result.now ≡ items_by p c.args.kind (part_at p.bodies o) =
+    c.deref.ensures.value ∙ c.in_ok-items.ensures ∙ ap (items_by p c.args.kind) c.body_at.ensures in
     record {
       count = c.note_uses.ensures.count ∙ c.loop-object.invariant.count;
       knows = objects-more c.note_uses.new.table each o (
