@@ -1,7 +1,7 @@
 //! The calls of the tests.
-ghost use Rattle.std.specs.Prelude.{◌≡◌, true, IsTrue};
+ghost use Rattle.std.specs.Prelude.{IsTrue};
 ghost use Rattle.ds_names.specs.Calls.{IsOnNames};
-ghost use Rattle.ds_plan_reads.specs.Questions.{is_reading};
+ghost use Rattle.ds_plan_reads.specs.Questions.{IsReading};
 ghost use Rattle.ds_plan_resize.specs.Answers.{IsResize};
 ghost use Rattle.ds_tree.specs.CallNames.{HasNames};
 
@@ -124,7 +124,7 @@ pub(crate) fn is_resize(call: &Call) -> bool
 
 /// Whether a call only reads one object.
 pub(crate) fn is_reading(call: &Call) -> bool
-    ensures { result ≡ is_reading call.now }
+    ensures { IsTrue result → IsReading call.now }
 {
     match call {
         CallOf::Stat { .. } => true,

@@ -52,8 +52,8 @@ ask_of (Ok reply) = Done reply
 ask_of (Err ask) = ask
 
 -- what the planner answers
-abbrev pub answers : Asked → Answers
-answers r seen p = ask_of (and_then (found r seen p) (reply_of r seen p r.question))
+abbrev pub answers_of : Asked → Answers
+answers_of r seen p = ask_of (and_then (found r seen p) (reply_of r seen p r.question))
 
 -- the sector of the object's body, or of the pointer block of the page that is needed
 abbrev pub IsNeeded : Asked → Parts → ℕ → Type 0

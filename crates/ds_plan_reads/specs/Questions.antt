@@ -1,5 +1,5 @@
 -- The calls that read an object without changing the tree, and what they ask.
-use Rattle.std.specs.Prelude.{ℕ, ◌/◌, Bool, true, false, Option, Some, None}
+use Rattle.std.specs.Prelude.{ℕ, ◌/◌, Option, Some, None, ⊤}
 use Rattle.ds_base.specs.declared.geometry.Geom.{Geom}
 use Rattle.ds_base.specs.declared.names.Key.{Key}
 use Rattle.ds_tree.specs.declared.calls.CallOf.{CallOf}
@@ -7,19 +7,20 @@ use Rattle.ds_tree.specs.declared.calls.CallOf.TheVariants as calls
 use Rattle.ds_plan_reads.specs.declared.questions.Question.{Question}
 use Rattle.ds_plan_reads.specs.declared.questions.Question.TheVariants.{Stat, Map, OpenFile, At}
 
--- what is asked of the object of a key, in a volume of this shape
+-- a planner: the shape of its volume, its host's slot, and what is asked of the object of a key
 pub record Asked : Type 0 where
   pub geom : Geom
+  pub slot : ℕ
   pub key : Key
   pub question : Question
 
--- whether a call only reads one object
-abbrev pub is_reading : CallOf Key → Bool
-is_reading (calls.Stat key) = true
-is_reading (calls.Map file page) = true
-is_reading (calls.OpenFile file) = true
-is_reading (calls.At file index) = true
-is_reading _ = false
+-- the calls that only read one object
+abbrev pub IsReading : CallOf Key → Type 0
+IsReading (calls.Stat key) = ⊤
+IsReading (calls.Map file page) = ⊤
+IsReading (calls.OpenFile file) = ⊤
+IsReading (calls.At file index) = ⊤
+IsReading _ = ⊥
 
 abbrev pub call_by : Key → Question → CallOf Key
 call_by key Stat = calls.Stat key

@@ -7,4 +7,4 @@ mod questions;
 mod reads;
 
 pub use questions::Question;
-pub use reads::Reads;
+pub use reads::ObjectReads;

@@ -7,12 +7,10 @@ ghost use Rattle.ds_fd.specs.declared.body.Body.{Body};
 ghost use Rattle.ds_image.specs.Parts.{Parts, part_at};
 ghost use Rattle.ds_image.specs.Readings as readings;
 ghost use Rattle.ds_image.specs.SeenValues.{look_of, IsSeen};
-ghost use Rattle.ds_plan_reads.specs.Answering.{answers, and_then, reply_of, block_at, block_in, IsNeeded};
+ghost use Rattle.ds_plan_reads.specs.Answering.{answers_of, and_then, reply_of, block_at, IsNeeded};
 ghost use Rattle.ds_plan_reads.specs.Finding.{found};
-ghost use Rattle.ds_plan_reads.specs.KeepingReplies.{lawful};
-ghost use Rattle.ds_plan_reads.specs.Small.{few};
 ghost use Rattle.ds_plan_reads.specs.Pages.{page_of, pointed_by};
-ghost use Rattle.ds_plan_reads.specs.Questions.{is_reading, call_of};
+ghost use Rattle.ds_plan_reads.specs.Questions.{IsReading, call_of};
 
 use crate::found::{Found, spelled};
 use crate::pages::{Page, body_page, listed};
@@ -20,7 +18,7 @@ use crate::questions::Question;
 use arrayvec::ArrayVec;
 use ds_base::{Geom, Key, Kind, SlotNo};
 use ds_fd::Body;
-use ds_image::{Ask, Plan, Seen, pointer_blocks};
+use ds_image::{Ask, Seen, pointer_blocks};
 use ds_layout::{Place, sector_of};
 use ds_ptr::PtrBlock;
 use ds_tree::{Call, TreeReply};
@@ -28,30 +26,32 @@ use std::marker::Model;
 
 /// How a call that only reads is done: the object's lock, its body, and where a page of a large file is needed one of its
 /// pointer blocks.
-#[derive(Drop)]
-pub struct Reads {
+#[derive(Debug, Drop)]
+pub struct ObjectReads {
     geom: Geom,
+    slot: SlotNo,
     key: Key,
     question: Question,
 }
 
-impl Model for Reads {
+impl Model for ObjectReads {
     ghost use Rattle.ds_base.specs.Geometry.{IsGeom};
     ghost use Rattle.ds_plan_reads.specs.Questions.{Asked};
 
     ghost Value = { Asked };
 
-    ghost view = { λ r. record { geom = r.geom; key = r.key; question = r.question } };
+    ghost view = { λ r. record { geom = r.geom; slot = r.slot; key = r.key; question = r.question } };
 
     ghost invariant = { λ r. IsGeom r.geom };
 }
 
-impl Reads {
-    /// The plan of a Stat, Map, OpenFile or At. It takes no free item, so that it is the same for every slot.
-    pub fn new(geom: &Geom, _slot: SlotNo, call: &Call) -> Reads
+impl ObjectReads {
+    /// The planner of a Stat, a Map, an OpenFile or an At, for a host with this slot.
+    pub fn new(geom: &Geom, slot: SlotNo, call: &Call) -> ObjectReads
         requires geom { IsGeom geom.now }
-        requires reading { is_reading call.now ≡ true }
+        requires reading { IsReading call.now }
         ensures geom { result.geom ≡ geom.now }
+        ensures slot { result.slot ≡ slot }
         ensures call { call_of result ≡ call.now }
     {
         let (key, question) = match call {
@@ -61,8 +61,9 @@ impl Reads {
             Call::At { file, index } => (*file, Question::At { index: *index }),
             _ => unreachable!(),
         };
-        Reads {
+        ObjectReads {
             geom: *geom,
+            slot,
             key,
             question,
         }
@@ -173,23 +174,12 @@ impl Reads {
             Question::At { index } => self.block(seen, &found.file()?, index),
         }
     }
-}
 
-impl Plan for Reads {
-    ghost geom = { λ r. r.geom };
-
-    ghost call = { call_of };
-
-    ghost answers = { answers };
-
-    ghost keeps = { λ r is names seen p reads. (lawful r seen p reads).keeps };
-
-    ghost few = { λ r is names seen p reads reached. few r seen p reached };
-
-    /// What the call needs next, or its reply: the lock of its object, the object's body, and at most one of its pointer blocks.
-    fn ask(&self, seen: &Seen) -> Ask
-        ensures exact { (p : Parts) → readings.Reads self.now.geom (look_of seen.now) p → result ≡ answers self.now seen.now p }
-        ensures locks { (object : ℕ) → result ≡ Ask.Lock object → object ≡ self.now.key.object }
+    /// What the call needs next by what it has seen, or its reply: the lock of its object, the object's body, and at most one of its
+    /// pointer blocks.
+    pub fn ask(&self, seen: &Seen) -> Ask
+        ensures exact { (p : Parts) → readings.Reads self.now.geom (look_of seen.now) p
+            → result ≡ answers_of self.now seen.now p }
         ensures reads { (at : ℕ) → result ≡ Ask.Read at
             → (p : Parts) → readings.Reads self.now.geom (look_of seen.now) p → IsNeeded self.now p at }
     {

@@ -1,7 +1,7 @@
 use Rattle.std.proofs.Common.{◌≡◌, ℕ, ◌*◌, ◌∙◌, List, take, drop, ap, arith}
 use Rattle.std.specs.List.{slice_range}
 use Rattle.ds_plan_reads.specs.declared.pages.Page.{Page}
-use Rattle.ds_plan_reads.specs.PageLists.{short_page}
+use Rattle.ds_plan_reads.proofs.PageLists.{short_page}
 use Rattle.ds_plan_reads.proofs.pages.body_page.Goals as goal
 
 pub returns-clause-exact : goal.returns-clause-exact

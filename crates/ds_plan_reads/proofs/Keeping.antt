@@ -22,9 +22,9 @@ use Rattle.ds_image.specs.Sound.{StandsFor}
 use Rattle.ds_image.specs.declared.asks.Ask.{Ask}
 use Rattle.ds_image.specs.declared.asks.Ask.TheVariants.{Lock, Read, Odd, Done}
 use Rattle.ds_image.proofs.TreeParts.{object-is}
-use Rattle.ds_plan_reads.specs.Alike.{body-alike}
+use Rattle.ds_plan_reads.proofs.Alike.{body-alike}
 use Rattle.ds_plan_reads.specs.Answering.{and_then, IsNeeded}
-use Rattle.ds_plan_reads.specs.Doing.{no-object}
+use Rattle.ds_plan_reads.proofs.Doing.{no-object}
 use Rattle.ds_plan_reads.specs.Finding.{body_sector, living, spelled, found}
 use Rattle.ds_plan_reads.specs.Questions.{Asked, call_of}
 use Rattle.ds_plan_reads.specs.declared.found.Found.{Found}
@@ -33,7 +33,7 @@ use Rattle.ds_plan_reads.specs.declared.found.Found.{Found}
 -- the body before any other
 pub record IsLawful (r : Asked) (seen : SeenValue) (p : Parts) (ask : Ask) : Type 0 where
   pub keeps : Keeps r.geom (call_of r) seen p ask
-  pub locks : (object : ℕ) → ask ≡ Lock object → object ≡ r.key.object
+  pub locks : (object : ℕ) → ask ≡ Lock object → (r.key.object ≡ object) × (r.key.object < items_of r.geom Fd)
   pub held : (at : ℕ) → ask ≡ Read at → has_lock seen r.key.object ≡ true
   pub needed : (at : ℕ) → ask ≡ Read at → IsNeeded r p at
   pub first : (at : ℕ) → ask ≡ Read at → look_of seen (body_sector r) ≡ None → at ≡ body_sector r
@@ -110,7 +110,7 @@ module _ (r : Asked) (seen : SeenValue) (p : Parts) where
   lawful-lock : r.key.object < items_of r.geom Fd → has_lock seen r.key.object ≡ false → IsLawful r seen p (Lock r.key.object)
   lawful-lock within free = record {
     keeps = record { form = (inl within, free); right = λ image t stands agrees. tt };
-    locks = λ object e. let same : r.key.object ≡ object = cc in sym same;
+    locks = λ object e. ((let same : r.key.object ≡ object = cc in same), within);
     held = λ at e. absurd cc;
     needed = λ at e. absurd cc;
     first = λ at e. absurd cc;

@@ -26,7 +26,7 @@ use Rattle.ds_image.proofs.Listed.{ptr_listed_within, block_listed_within}
 use Rattle.ds_image.proofs.Sizes.{body_is, many_pointers, file_size, ptr_length}
 use Rattle.ds_image.proofs.SoundParts.{list-is}
 use Rattle.ds_plan_reads.specs.Pages.{pointer_of}
-use Rattle.ds_plan_reads.specs.PageLists.{page-cut_off}
+use Rattle.ds_plan_reads.proofs.PageLists.{page-cut_off}
 
 -- what finds a number in a list finds its place
 found-at : (xs : List ℕ) (n : ℕ) → list_any (λ x. x == n) xs ≡ true → (i : ℕ) × (slice_get xs i ≡ Some n)

@@ -19,12 +19,12 @@ use Rattle.ds_image.specs.SeenValues.{SeenValue, has_lock, look_of}
 use Rattle.ds_image.specs.Sound.{StandsFor}
 use Rattle.ds_image.specs.declared.asks.Ask.{Ask}
 use Rattle.ds_image.specs.declared.asks.Ask.TheVariants.{Read, Odd}
-use Rattle.ds_plan_reads.specs.Alike.{ptr-alike}
+use Rattle.ds_plan_reads.proofs.Alike.{ptr-alike}
 use Rattle.ds_plan_reads.specs.Finding.{body_sector}
-use Rattle.ds_plan_reads.specs.Keeping.{IsLawful, IsLawfulOr, by-test, none-is, some-there, lawful-odd, body-there}
-use Rattle.ds_plan_reads.specs.PageLists.{page-past}
+use Rattle.ds_plan_reads.proofs.Keeping.{IsLawful, IsLawfulOr, by-test, none-is, some-there, lawful-odd, body-there}
+use Rattle.ds_plan_reads.proofs.PageLists.{page-past}
 use Rattle.ds_plan_reads.specs.Pages.{pointer_of, ptr_sector, body_page, pointed_page, page_of}
-use Rattle.ds_plan_reads.specs.Pointers.{page-within, page-beyond, pointer-in_range, pointer-guard, page-pointed}
+use Rattle.ds_plan_reads.proofs.Pointers.{page-within, page-beyond, pointer-in_range, pointer-guard, page-pointed}
 use Rattle.ds_plan_reads.specs.Questions.{Asked, page_by}
 use Rattle.ds_plan_reads.specs.declared.pages.Page.{Page}
 

@@ -20,14 +20,14 @@ use Rattle.ds_image.specs.SeenValues.{SeenValue, look_of}
 use Rattle.ds_image.specs.Sound.{StandsFor}
 use Rattle.ds_image.specs.declared.asks.Ask.{Ask}
 use Rattle.ds_image.specs.declared.asks.Ask.TheVariants.{Odd, Done}
-use Rattle.ds_plan_reads.specs.Answering.{and_then, size_by, block_in, block_at, reply_of, ask_of, answers}
-use Rattle.ds_plan_reads.specs.Doing.{key-node, not-file_map, not-file_open, not-file_at, does-stat, does-open, does-map, does-no_block, does-at}
+use Rattle.ds_plan_reads.specs.Answering.{and_then, size_by, block_in, block_at, reply_of, ask_of, answers_of}
+use Rattle.ds_plan_reads.proofs.Doing.{key-node, not-file_map, not-file_open, not-file_at, does-stat, does-open, does-map, does-no_block, does-at}
 use Rattle.ds_plan_reads.specs.Finding.{file_by, file_of, found}
-use Rattle.ds_plan_reads.specs.Keeping.{IsLawful, IsLawfulOr, IsFound, lawful-then, lawful-done, lawful-odd, lawful-found, by-test, body-there, object-there}
-use Rattle.ds_plan_reads.specs.KeepingPages.{IsFile, IsPage, lawful-page}
-use Rattle.ds_plan_reads.specs.PageLists.{page-item}
+use Rattle.ds_plan_reads.proofs.Keeping.{IsLawful, IsLawfulOr, IsFound, lawful-then, lawful-done, lawful-odd, lawful-found, by-test, body-there, object-there}
+use Rattle.ds_plan_reads.proofs.KeepingPages.{IsFile, IsPage, lawful-page}
+use Rattle.ds_plan_reads.proofs.PageLists.{page-item}
 use Rattle.ds_plan_reads.specs.Pages.{page_of}
-use Rattle.ds_plan_reads.specs.Pointers.{blocks-length, block-in_range}
+use Rattle.ds_plan_reads.proofs.Pointers.{blocks-length, block-in_range}
 use Rattle.ds_plan_reads.specs.Questions.{Asked, call_of, call_by, page_by}
 use Rattle.ds_plan_reads.specs.declared.found.Found.{Found}
 use Rattle.ds_plan_reads.specs.declared.pages.Page.{Page}
@@ -194,7 +194,7 @@ module _ (r : Asked) (seen : SeenValue) (p : Parts) (reads : Reads r.geom (look_
   lawful-ask (Err ask) is = is
 
   -- each answer keeps the law
-  pub lawful : IsLawful r seen p (answers r seen p)
+  pub lawful : IsLawful r seen p (answers_of r seen p)
   lawful =
       lawful-ask (and_then (found r seen p) (reply_of r seen p r.question))
       (lawful-then r seen p (IsFound r seen p) (IsLawfulReply r seen p) (found r seen p) (reply_of r seen p r.question)

@@ -20,11 +20,11 @@ use Rattle.ds_image.specs.declared.asks.Ask.{Ask}
 use Rattle.ds_image.specs.declared.asks.Ask.TheVariants.{Lock, Read, Odd, Worn, Done, Change}
 use Rattle.ds_image.proofs.Seeing.{sector_in-append}
 use Rattle.ds_image.proofs.Sizes.{part_within}
-use Rattle.ds_plan_reads.specs.Alike.{body-alike}
-use Rattle.ds_plan_reads.specs.Answering.{answers, IsNeeded}
+use Rattle.ds_plan_reads.proofs.Alike.{body-alike}
+use Rattle.ds_plan_reads.specs.Answering.{answers_of, IsNeeded}
 use Rattle.ds_plan_reads.specs.Finding.{body_sector}
-use Rattle.ds_plan_reads.specs.Keeping.{IsLawful, none-is, some-there}
-use Rattle.ds_plan_reads.specs.KeepingReplies.{lawful}
+use Rattle.ds_plan_reads.proofs.Keeping.{IsLawful, none-is, some-there}
+use Rattle.ds_plan_reads.proofs.KeepingReplies.{lawful}
 use Rattle.ds_plan_reads.specs.Pages.{pointer_of, ptr_sector}
 use Rattle.ds_plan_reads.specs.Questions.{Asked, call_of, page_by}
 
@@ -35,7 +35,7 @@ pub record IsSmall (r : Asked) (seen : SeenValue) : Type 0 where
   pub sectors : length seen.sectors ≤ 2
   pub unlocked : has_lock seen r.key.object ≡ false → (length seen.locks ≤ 1) × (length seen.sectors ≡ 0)
   pub unread : look_of seen (body_sector r) ≡ None → length seen.sectors ≡ 0
-  pub last : (p : Parts) → Reads r.geom (look_of seen) p → (at : ℕ) → answers r seen p ≡ Read at → length seen.sectors ≤ 1
+  pub last : (p : Parts) → Reads r.geom (look_of seen) p → (at : ℕ) → answers_of r seen p ≡ Read at → length seen.sectors ≤ 1
 
 few-of : (seen : SeenValue) → length seen.locks ≤ 2 → length seen.sectors ≤ 2 → (ask : Ask) → IsFew seen ask
 few-of seen l s (Lock object) = (omega arith, omega arith)
@@ -85,16 +85,16 @@ module _ (r : Asked) where
       }
 
   -- the sector that is asked for a second time differs from the first, which was the body
-  second-read : (seen : SeenValue) (at : ℕ) (s : Sector) (q : Parts) → Reads r.geom (look_of seen) q → answers r seen q ≡ Read at
+  second-read : (seen : SeenValue) (at : ℕ) (s : Sector) (q : Parts) → Reads r.geom (look_of seen) q → answers_of r seen q ≡ Read at
       → (first : Sector) → look_of seen (body_sector r) ≡ Some first
-      → (p : Parts) → Reads r.geom (look_of (with_sector seen at s)) p → (k : ℕ) → answers r (with_sector seen at s) p ≡ Read k → ⊥
+      → (p : Parts) → Reads r.geom (look_of (with_sector seen at s)) p → (k : ℕ) → answers_of r (with_sector seen at s) p ≡ Read k → ⊥
   second-read seen at s q reads asked first body p reads' k asked' =
       let after : SeenValue = with_sector seen at s in
       let was = lawful r seen q reads in
       let is = lawful r after p reads' in
       let body' : look_of after (body_sector r) ≡ Some first = known-still seen at s (body_sector r) first body in
-      let unread : look_of seen at ≡ None = unread-of seen q (answers r seen q) at was asked in
-      let unread' : look_of after k ≡ None = unread-of after p (answers r after p) k is asked' in
+      let unread : look_of seen at ≡ None = unread-of seen q (answers_of r seen q) at was asked in
+      let unread' : look_of after k ≡ None = unread-of after p (answers_of r after p) k is asked' in
       let one = needs-pointer seen q at (was.needed at asked) first body unread in
       let two = needs-pointer after p k (is.needed k asked') first body' unread' in
       let within : r.key.object < items_of r.geom Fd = omega (arith, part_within q.bodies r.key.object one.0 one.1, reads.bodies.len) in
@@ -119,10 +119,10 @@ module _ (r : Asked) where
         | inr pointer ↦ pointer
       ]
 
-  small-given : (seen : SeenValue) (at : ℕ) (s : Sector) → IsSmall r seen → Asks r.geom (answers r) seen (Read at) → IsSmall r (with_sector seen at s)
+  small-given : (seen : SeenValue) (at : ℕ) (s : Sector) → IsSmall r seen → Asks r.geom (answers_of r) seen (Read at) → IsSmall r (with_sector seen at s)
   small-given seen at s small asks =
       let q : Parts = asks.parts in
-      let asked : answers r seen q ≡ Read at = sym asks.answered in
+      let asked : answers_of r seen q ≡ Read at = sym asks.answered in
       let was = lawful r seen q asks.reads in
       let held : has_lock seen r.key.object ≡ true = was.held at asked in
       let few : length seen.sectors ≤ 1 = small.last q asks.reads at asked in
@@ -154,17 +154,17 @@ module _ (r : Asked) where
             }
       ]
 
-  small : (seen : SeenValue) → Reached (Asks r.geom (answers r)) seen → IsSmall r seen
+  small : (seen : SeenValue) → Reached (Asks r.geom (answers_of r)) seen → IsSmall r seen
   small seen (Start locks one) = small-first locks one
   small seen (Locked before object reached asks) =
       let was = lawful r before asks.parts asks.reads in
-      let asked : answers r before asks.parts ≡ Lock object = sym asks.answered in
-      small-locked before object (small before reached) (was.locks object asked)
+      let asked : answers_of r before asks.parts ≡ Lock object = sym asks.answered in
+      small-locked before object (small before reached) (sym (was.locks object asked).0)
       ((subst (λ (a : Ask). HasForm r.geom (call_of r) before asks.parts a) asked was.keeps.form).1)
   small seen (Given before at s reached asks block) = small-given before at s (small before reached) asks
 
   -- nowhere too much is asked for
-  pub few : (seen : SeenValue) (p : Parts) → Reached (Asks r.geom (answers r)) seen → IsFew seen (answers r seen p)
+  pub few : (seen : SeenValue) (p : Parts) → Reached (Asks r.geom (answers_of r)) seen → IsFew seen (answers_of r seen p)
   few seen p reached =
       let is = small seen reached in
-      few-of seen is.locks is.sectors (answers r seen p)
+      few-of seen is.locks is.sectors (answers_of r seen p)

@@ -5,12 +5,12 @@ use Rattle.ds_plan_reads.specs.Finding.{body_sector, spelled, found}
 use Rattle.ds_plan_reads.specs.Questions.{Asked}
 use Rattle.ds_image.specs.Readings.{Reads}
 use Rattle.ds_image.specs.SeenValues.{has_lock, look_of}
-use Rattle.ds_plan_reads.specs.Alike.{found-read}
-use Rattle.ds_plan_reads.proofs.reads.Reads.found.Goals as goal
+use Rattle.ds_plan_reads.proofs.Alike.{found-read}
+use Rattle.ds_plan_reads.proofs.reads.ObjectReads.found.Goals as goal
 
 pub returns-clause-exact : goal.returns-clause-exact
 returns-clause-exact c p reads =
-    let r : Asked = record { geom = c.self.inside.geom; key = c.self.inside.key; question = c.self.inside.question } in
+    let r : Asked = record { geom = c.self.inside.geom; slot = c.self.inside.slot; key = c.self.inside.key; question = c.self.inside.question } in
     let same : r ≡ c.args.self.now = c.self.view_is in
     let here : Reads r.geom (look_of c.args.seen.now) p = subst (λ (v : Asked). Reads v.geom (look_of c.args.seen.now) p) (sym same) reads in
     let at = c.sector_of-at.ensures in
