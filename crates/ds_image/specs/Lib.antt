@@ -8,7 +8,6 @@ pub mod Laying
 pub mod Listers
 pub mod Logical
 pub mod Looks
-pub mod Metadata
 pub mod KnownUsers
 pub mod NameCounts
 pub mod Objects

@@ -11,7 +11,8 @@ use Rattle.ds_image.specs.Asking.{IsGuarded, IsRightChange, targets_of}
 use Rattle.ds_image.specs.Logical.{laid_over}
 use Rattle.ds_image.specs.Pending.{Pair}
 use Rattle.ds_image.specs.SeenValues.{SeenValue}
-use Rattle.ds_plan_laws_new.specs.Guarded.{GuardedBy, HoldsLock}
+use Rattle.ds_image.specs.Guards.{GuardedBy}
+use Rattle.ds_image.specs.SeenValues.{HoldsLock}
 use Rattle.ds_plan_laws_new.specs.Making.{Leaves}
 
 all-guarded : (g : Geom) (seen : SeenValue) (image : List Sector) (targets : List ℕ) → All (GuardedBy g (slice_get image) (HoldsLock seen)) targets
