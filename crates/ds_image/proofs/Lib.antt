@@ -46,3 +46,4 @@ pub mod Standing
 pub mod TreeParts
 pub mod TreesThatStand
 pub mod WalkingParents
+pub mod Reaching
