@@ -23,11 +23,11 @@ ghost use Rattle.ds_check.specs.Marks.{
   marks_stage,
 };
 
-use crate::controls::{ControlsInMemory, cluster_count, cluster_lock, descriptor_count};
+use crate::controls::{ControlsInMemory, cluster_count, descriptor_count};
 use crate::findings::Find;
 use crate::reports::Report;
 use ds_base::{Gen, Geom, Kind, NoMemory, ObjNo, SlotNo};
-use ds_layout::{Place, sector_of};
+use ds_layout::{Place, cluster_lock, sector_of};
 use ds_marks::{Owner, Slot, SlotState};
 use uuid::Uuid;
 

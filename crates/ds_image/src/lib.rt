@@ -42,7 +42,7 @@ pub use owners::bits_in;
 pub use parents::reached;
 pub use parts::PartsInMemory;
 pub use plans::Plan;
-pub use reads::{header_at, index_of, sector_at, slot_at};
+pub use reads::{header_at, index_at, index_of, sector_at, slot_at};
 pub use seen::Seen;
 pub use stores::Store;
 pub use trees::read_tree;

@@ -9,7 +9,7 @@ use Rattle.ds_base.specs.declared.names.Key.{Key}
 use Rattle.ds_base.specs.declared.sectors.Sector.{Sector}
 use Rattle.ds_image.specs.Asking.{Agrees, HasForm, IsFew, IsWorn, Keeps, Reached, Start, Locked, Given, IsRight}
 use Rattle.ds_image.specs.ImageValues.{IsImage}
-use Rattle.ds_image.specs.Metadata.{IsMetadata}
+use Rattle.ds_layout.specs.Metadata.{IsMetadata}
 use Rattle.ds_image.specs.Parts.{Parts, part_at}
 use Rattle.ds_image.specs.Planning.{Answers, Asks, AllKeep, AllAreFew}
 use Rattle.ds_image.specs.Readings.{Reads}

@@ -9,7 +9,7 @@ use Rattle.ds_image.specs.Owns.{Owns, list_of, bit}
 use Rattle.ds_image.proofs.Marking.{clears-many, adds-one, can-back}
 use Rattle.ds_image.proofs.Owning.{owns-adds, owns-given_up}
 use Rattle.ds_image.proofs.Places.{Contains-from_at, at-from_Contains, bit-at, bit-from_at, marked-within}
-use Rattle.ds_plan_laws_new.proofs.Bits.{clear_count}
+use Rattle.ds_image.proofs.Bits.{clear_count}
 use Rattle.ds_plan_laws_size.specs.Remarks.{Remarks}
 
 -- Whether an item is in a list

@@ -17,7 +17,7 @@ use Rattle.ds_image.specs.Readings.{Reads}
 use Rattle.ds_image.proofs.Marking.{adds-many, clears-many}
 use Rattle.ds_image.proofs.Places.{at-append, at-append_left, at-append_right, Contains-from_at, at-from_Contains}
 use Rattle.ds_image.proofs.Sizes.{part_within}
-use Rattle.ds_plan_laws_new.proofs.Bits.{bit-within, bits-at}
+use Rattle.ds_image.proofs.Bits.{bit-within, bits-at}
 use Rattle.ds_plan_laws_size.specs.Clusters.{MarksCluster, MarksClusters}
 use Rattle.ds_plan_laws_size.specs.Takes.{Take, items_taken, maps_taken, Takes, items_in_cluster, Gives}
 

@@ -3,7 +3,7 @@ ghost use Rattle.std.specs.Prelude.{◌≡◌, ◌++◌, Some, OnOk, option_copi
 ghost use Rattle.ds_base.specs.Decoding.{IsDecoded};
 ghost use Rattle.ds_base.specs.Geometry.{IsGeom};
 ghost use Rattle.ds_marks.specs.Slot.{IsSlot, slot_bytes};
-ghost use Rattle.ds_world.specs.Slots.{slot_in};
+ghost use Rattle.ds_marks.specs.SlotIn.{slot_in};
 ghost use Rattle.ds_report.specs.Slots.{slot_at, turn_word, turn_line, swap_line, slot_line};
 
 use crate::growing::Growing;
@@ -73,8 +73,6 @@ pub(crate) fn slot_in(number: SlotNo, sector: Sector) -> Option<Slot>
     ensures same { result ≡ slot_in number sector.bytes }
     ensures spelled { IsDecoded result (λ s. IsSlot s × (sector.bytes ≡ slot_bytes number s)) }
 {
-    // A read of the bytes shows that there are 512, each below 256.
-    let _bytes = &sector.bytes;
     Slot::decode(number, &sector)
 }
 

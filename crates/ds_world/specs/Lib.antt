@@ -1,5 +1,4 @@
 pub mod LogValues
-pub mod Slots
 pub mod Store
 pub mod Moments
 pub mod Rules

@@ -1,6 +1,6 @@
 -- Each turn is one more lock or one more sector, and the end is that of the course.
 use Rattle.std.proofs.Common.{◌≡◌, [], subst, arith, rules}
-use Rattle.ds_image.specs.Metadata.{IsMetadata}
+use Rattle.ds_layout.specs.Metadata.{IsMetadata}
 use Rattle.ds_plan_alone.specs.Courses.{Begun, IsCourse}
 use Rattle.ds_plan_alone.proofs.Alone.{planned, lock_step, read_step, ends_right, most, asks_of, is_end}
 use Rattle.ds_plan_alone.proofs.courses.carry_out.Goals as goal

@@ -15,7 +15,7 @@ use Rattle.ds_image.specs.Owns.{bit}
 use Rattle.ds_image.specs.Parts.{part_at, AllSpelled, used_bits, bits_in}
 use Rattle.ds_image.specs.Readings.{SpellsBits, IsReading}
 use Rattle.ds_image.proofs.Listed.{bits_length}
-use Rattle.ds_plan_laws_new.proofs.Bits.{flat-get, maps-wide}
+use Rattle.ds_image.proofs.Bits.{flat-get, maps-wide}
 
 module _ (g : Geom) (look look' : Look) (kind : Kind) (maps maps' : List (Option Bitmap))
     (reads : IsReading (clusters_of g kind) (SpellsBits g look kind) maps) (all : AllSpelled maps)

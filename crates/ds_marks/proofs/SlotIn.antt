@@ -1,60 +1,27 @@
 -- The slot that is read of a sector is the one that it spells.
-use Rattle.std.proofs.Common.{◌≡◌, ℕ, suc, ◌+◌, ◌*◌, ◌/◌, ◌%◌, ◌^◌, ◌<◌, ◌≤◌, Bool, true, false, cond, ◌&&◌, List, [], ◌∷◌, ◌++◌, length, take, drop, replicate, Option, Some, None, Decides, refl, sym, ap, subst, ◌∙◌, arith}
+use Rattle.std.proofs.Common.{◌≡◌, ℕ, ◌+◌, ◌^◌, ◌<◌, ◌≤◌, Bool, true, false, cond, ◌&&◌, List, length, replicate, Option, Some, None, Decides, refl, ap, subst, ◌∙◌, arith}
 use Rattle.std.specs.Prelude.{◌==◌, nat_le, nat_lt}
 use Rattle.std.specs.Str.{bytes_eq}
-use Rattle.std.proofs.Math.Nat.{pow-suc}
-use Rattle.std.proofs.lemmas.List.{length-take-le, length-drop}
-use Rattle.std.proofs.lemmas.Bool.Decides.{nat_tests}
 use Rattle.std.proofs.lemmas.Slice.Eq.{bytes_eq-Decides}
 use Rattle.ds_base.specs.Decoding.{IsDecoded}
-use Rattle.ds_bytes.specs.Fields.{little, front, spelled, AllBelow, FieldsFit}
-use Rattle.ds_bytes.proofs.Fronts.{front_read, front_none}
-use Rattle.ds_bytes.proofs.Readings.{CanRead, AllBelow-take, AllBelow-drop}
+use Rattle.ds_bytes.specs.Fields.{front, spelled, AllBelow, FieldsFit}
+use Rattle.ds_bytes.proofs.Fronts.{front_none}
+use Rattle.ds_bytes.proofs.Readings.{CanRead}
 use Rattle.ds_marks.specs.Slot.{txn_of, IsOfState, IsOfJournal, IsSlot, slot_bytes}
+use Rattle.ds_marks.specs.SlotIn.{parts_in, is_count, is_idle, fits_state, fits_journal, is_slot, spelled_by, slot_in}
 use Rattle.ds_marks.specs.SlotParts.{part_fields, slot_of}
 use Rattle.ds_marks.specs.declared.slot.Slot.{Slot}
 use Rattle.ds_marks.specs.declared.slot.SlotState.{SlotState}
 use Rattle.ds_marks.specs.declared.slot.SlotState.TheVariants.{Free, Live, Breaking}
 use Rattle.ds_marks.specs.declared.slot.Journal.{Journal}
 use Rattle.ds_marks.specs.declared.slot.Journal.TheVariants.{Idle, Committed}
+use Rattle.ds_marks.proofs.Deciding.{first, second, both, decides_both, decides_as, decides_eq, decides_le, decides_lt, decides_count, decoded_same}
+use Rattle.ds_marks.proofs.Pieces.{piece_size, piece_read, number_read}
 use Rattle.ds_marks.proofs.Slots.{names_slot}
-use Rattle.ds_world.specs.Slots.{number_of, piece_at, number_at, parts_in, is_count, is_idle, fits_state, fits_journal, is_slot, spelled_by, slot_in}
-
--- Tests that decide what slots are
-
-first : (a b : Bool) → (a && b) ≡ true → a ≡ true
-first true b p = refl
-first false b p = absurd (cc)
-
-second : (a b : Bool) → (a && b) ≡ true → b ≡ true
-second true b p = p
-second false b p = absurd (cc)
-
-both : (a b : Bool) → a ≡ true → b ≡ true → (a && b) ≡ true
-both true b p q = q
-both false b p q = absurd (cc)
-
-decides_both : {P Q : Type 0} (a b : Bool) → Decides a P → Decides b Q → Decides (a && b) (P × Q)
-decides_both a b d e = (λ p. (d.0 (first a b p), e.0 (second a b p)), λ h. both a b (d.1 h.0) (e.1 h.1))
-
-decides_as : {P Q : Type 0} (a : Bool) → (P → Q) → (Q → P) → Decides a P → Decides a Q
-decides_as a there back d = (λ p. there (d.0 p), λ q. d.1 (back q))
-
-decides_eq : (m n : ℕ) → Decides (m == n) (m ≡ n)
-decides_eq m n = (λ p. grind (arith, nat_tests), λ p. grind (arith, nat_tests))
-
-decides_le : (m n : ℕ) → Decides (nat_le m n) (m ≤ n)
-decides_le m n = (λ p. grind (arith, nat_tests), λ p. grind (arith, nat_tests))
-
-decides_lt : (m n : ℕ) → Decides (nat_lt m n) (m < n)
-decides_lt m n = (λ p. grind (arith, nat_tests), λ p. grind (arith, nat_tests))
 
 decides_idle : (j : Journal) → Decides (is_idle j) (j ≡ Idle)
 decides_idle Idle = (λ p. refl, λ p. refl)
 decides_idle (Committed txn count) = (λ p. absurd (cc), λ p. absurd (cc))
-
-decides_count : (n : ℕ) → Decides (is_count n) ((1 ≤ n) × (n ≤ 2 ^ 62))
-decides_count n = decides_both (nat_le 1 n) (nat_le n (2 ^ 62)) (decides_le 1 n) (decides_le n (2 ^ 62))
 
 decides_state : (t : SlotState) (s : Slot) → Decides (fits_state t s) (IsOfState t s)
 decides_state Free s =
@@ -96,43 +63,6 @@ decides_slot s =
     (decides_both ((length s.host == 16) && is_count s.generation) (fits_state s.state s)
     (decides_both (length s.host == 16) (is_count s.generation) (decides_eq (length s.host) 16) (decides_count s.generation))
     (decides_state s.state s)) (decides_journal s.journal))
-
--- What is read of bytes
-
--- bytes spell the number that is read of them
-number_spelled : (bs : List ℕ) → AllBelow 256 bs → (number_of bs < 256 ^ length bs) × (little (length bs) (number_of bs) ≡ bs)
-unfolding little
-number_spelled [] h = (omega arith, refl)
-number_spelled (b ∷ bs) h =
-    let rest = number_spelled bs (λ i. h (suc i)) in
-    let b_below : b < 256 = h 0 in
-    let below : number_of bs < 256 ^ length bs = rest.0 in
-    let low : (b + 256 * number_of bs) % 256 ≡ b = omega arith in
-    let high : (b + 256 * number_of bs) / 256 ≡ number_of bs = omega arith in
-    let cells : (b + 256 * number_of bs) % 256 ∷ little (length bs) ((b + 256 * number_of bs) / 256) ≡ b ∷ bs = rw (low, high) (ap (λ t. b ∷ t) rest.1) in
-    (omega (arith, pow-suc 256 (length bs)), cells)
-
-piece_size : (at n : ℕ) (bytes : List ℕ) → CanRead at n bytes → length (piece_at at n bytes) ≡ n
-piece_size at n bytes h = length-take-le n (drop at bytes) (omega (arith, length-drop at bytes, h.within))
-
-piece_read : (at n : ℕ) (bytes : List ℕ) → front (at + n) bytes ≡ front at bytes ++ piece_at at n bytes
-piece_read at n bytes = front_read at n bytes (take n (drop at bytes)) refl
-
--- a number of so many bytes
-record IsNumberAt (at n : ℕ) (bytes : List ℕ) : Type 0 where
-  below : number_at at n bytes < 256 ^ n
-  read : front (at + n) bytes ≡ front at bytes ++ little n (number_at at n bytes)
-
-number_read : (at n : ℕ) (bytes : List ℕ) → CanRead at n bytes → IsNumberAt at n bytes
-number_read at n bytes h =
-    let piece = piece_at at n bytes in
-    let size = piece_size at n bytes h in
-    let number = number_spelled piece (AllBelow-take 256 n (drop at bytes) (omega arith) (AllBelow-drop 256 at bytes h.are_bytes)) in
-    let spells : little n (number_of piece) ≡ piece = ap (λ k. little k (number_of piece)) (sym size) ∙ number.1 in
-    record {
-      below = subst (λ (k : ℕ). number_of piece < 256 ^ k) size number.0;
-      read = piece_read at n bytes ∙ ap (λ r. front at bytes ++ r) (sym spells);
-    }
 
 -- the fields that are read of 512 bytes
 record AreParts (bytes : List ℕ) : Type 0 where
@@ -182,13 +112,20 @@ slot_in-IsDecoded number bytes small len below t =
           ap (spelled_by number bytes) named ∙ ap (λ (b : Bool). cond b (Some t) None) passes,
     )
 
--- two answers of a decoder are one
-decoded_same : {V : Type 0} (a b : Option V) (Describes : V → Type 0) → IsDecoded a Describes → IsDecoded b Describes → a ≡ b
-decoded_same None None Describes p q = refl
-decoded_same None (Some y) Describes p q = (p y).1 ((q y).0 refl)
-decoded_same (Some x) b Describes p q = sym ((q x).1 ((p x).0 refl))
-
 -- a decoder's answer is the slot that the sector spells
 pub slot_in-only : (number : ℕ) (bytes : List ℕ) (r : Option Slot) → number < 256 → length bytes ≡ 512 → AllBelow 256 bytes → IsDecoded r (λ s. IsSlot s × (bytes ≡ slot_bytes number s)) → r ≡ slot_in number bytes
 slot_in-only number bytes r small len below decoded =
     decoded_same r (slot_in number bytes) (λ s. IsSlot s × (bytes ≡ slot_bytes number s)) decoded (slot_in-IsDecoded number bytes small len below)
+
+-- what is read of a sector is a slot, and the sector spells it
+pub slot_in-is : (number : ℕ) (bytes : List ℕ) (s : Slot) → slot_in number bytes ≡ Some s → IsSlot s × (bytes ≡ slot_bytes number s)
+unfolding slot_in
+slot_in-is number bytes s e = found_is number bytes (slot_of (parts_in bytes)) s e
+
+stamp_below : (t : SlotState) (s : Slot) → IsOfState t s → s.stamp < 18446744073709551616
+stamp_below Free s h = let none : s.stamp ≡ 0 = h.1 in omega arith
+stamp_below Live s h = let most : s.stamp ≤ 2 ^ 62 = h.1 in omega arith
+stamp_below (Breaking by generation) s h = let most : s.stamp ≤ 2 ^ 62 = h.0.1 in omega arith
+
+pub slot_in-stamp : (number : ℕ) (bytes : List ℕ) (s : Slot) → slot_in number bytes ≡ Some s → s.stamp < 18446744073709551616
+slot_in-stamp number bytes s e = stamp_below s.state s (slot_in-is number bytes s e).0.ranges.is_of_state

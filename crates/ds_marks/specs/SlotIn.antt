@@ -1,6 +1,7 @@
--- The slot that a sector spells.
-use Rattle.std.specs.Prelude.{ℕ, ◌+◌, ◌*◌, ◌^◌, ◌&&◌, ◌==◌, Bool, true, false, nat_le, nat_lt, if◌then◌else◌, List, [], ◌∷◌, length, take, drop, replicate, Option, Some, None}
+-- The slot that a sector spells, as a function of its bytes.
+use Rattle.std.specs.Prelude.{ℕ, ◌^◌, ◌&&◌, ◌==◌, Bool, true, false, nat_le, nat_lt, if◌then◌else◌, List, length, replicate, Option, Some, None}
 use Rattle.std.specs.Str.{bytes_eq}
+use Rattle.ds_marks.specs.Pieces.{piece_at, number_at}
 use Rattle.ds_marks.specs.Slot.{slot_bytes}
 use Rattle.ds_marks.specs.SlotParts.{slot_of}
 use Rattle.ds_marks.specs.declared.slot.Slot.{Slot}
@@ -9,19 +10,6 @@ use Rattle.ds_marks.specs.declared.slot.SlotState.TheVariants.{Free, Live, Break
 use Rattle.ds_marks.specs.declared.slot.Journal.{Journal}
 use Rattle.ds_marks.specs.declared.slot.Journal.TheVariants.{Idle, Committed}
 use Rattle.ds_marks.specs.declared.slot_parts.SlotParts.{SlotParts}
-
--- the number that these bytes spell, the lowest first
-abbrev pub number_of : List ℕ → ℕ
-number_of [] = 0
-number_of (b ∷ bs) = b + 256 * number_of bs
-
--- so many bytes from an offset on
-abbrev pub piece_at : ℕ → ℕ → List ℕ → List ℕ
-piece_at at n bytes = take n (drop at bytes)
-
--- the number that is spelled there
-abbrev pub number_at : ℕ → ℕ → List ℕ → ℕ
-number_at at n bytes = number_of (piece_at at n bytes)
 
 -- the fields of a slot as they stand in these bytes
 abbrev pub parts_in : List ℕ → SlotParts

@@ -1,0 +1,6 @@
+pub mod Calls
+pub mod HostWrites
+pub mod ImageSteps
+pub mod Kept
+pub mod Owners
+pub mod Shown

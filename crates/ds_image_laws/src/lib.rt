@@ -1,0 +1,2 @@
+//! What an event does to the logical image of a store.
+#![tactic(auto)]
