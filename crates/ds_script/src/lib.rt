@@ -8,8 +8,8 @@ mod drafts;
 mod fault_tests;
 mod faults;
 mod fields;
-mod growing;
 mod items;
+mod laws;
 mod limits;
 mod lines;
 mod numbers;
@@ -25,6 +25,7 @@ mod reading_tests;
 mod spelling;
 
 pub use faults::{LineFault, ScriptFault, What};
+pub use laws::{one_scenario, one_volume};
 pub use passing::{Pass, plain_pass};
 pub use printing::print;
 pub use reading::{read, read_volume};

@@ -5,12 +5,12 @@ ghost use Rattle.std.specs.Prelude.{◌≡◌, ◌++◌, ◌∷◌, [], OnOk, co
 ghost use Rattle.ds_tree.specs.Grammar.{after_part, as_part, key_word, landing_word, names_of, point_word};
 ghost use Rattle.ds_script.specs.Printed.{behind_blanks, call_words, directive_words, name_at, tree_call_words};
 
-use crate::growing::Growing;
 use ds_base::{HostNo, NoMemory, Word};
+use ds_text::Text;
 use ds_tree::{CallOf, Directive, HostCallOf, HostPlan, Point, Spoken, Var};
 
 pub fn write_directive(
-    text: &mut Growing,
+    text: &mut Text,
     hosts: &[HostPlan],
     directive: &Directive,
 ) -> Result<(), NoMemory>
@@ -23,7 +23,7 @@ pub fn write_directive(
         }
         Directive::Tick { ticks } => {
             text.word(b"tick")?;
-            text.number(*ticks)
+            text.number_word(u64::from(*ticks))
         }
         Directive::Wait { host, directive } => {
             text.word(b"wait")?;
@@ -52,7 +52,7 @@ pub fn write_directive(
     }
 }
 
-fn write_call(text: &mut Growing, call: &HostCallOf<Spoken>) -> Result<(), NoMemory>
+fn write_call(text: &mut Text, call: &HostCallOf<Spoken>) -> Result<(), NoMemory>
     ensures { OnOk result (text.new ≡ text.old ++ behind_blanks (call_words call.now)) }
 {
     match call {
@@ -64,14 +64,14 @@ fn write_call(text: &mut Growing, call: &HostCallOf<Spoken>) -> Result<(), NoMem
         HostCallOf::Close { file } => write_keyed(text, b"close", file),
         HostCallOf::Put { file, sector, fill } => {
             write_counted(text, b"put", file, *sector)?;
-            text.number(u32::from(*fill))
+            text.number_word(u64::from(*fill))
         }
         HostCallOf::Get { file, sector } => write_counted(text, b"get", file, *sector),
     }
 }
 
 /// A call on the file tree. The reading of a block's number has no words: no text asks for it.
-fn write_tree_call(text: &mut Growing, call: &CallOf<Spoken>) -> Result<(), NoMemory>
+fn write_tree_call(text: &mut Text, call: &CallOf<Spoken>) -> Result<(), NoMemory>
     ensures { OnOk result (text.new ≡ text.old ++ behind_blanks (tree_call_words call.now)) }
 {
     match call {
@@ -103,7 +103,7 @@ fn write_tree_call(text: &mut Growing, call: &CallOf<Spoken>) -> Result<(), NoMe
 }
 
 /// A first word and a key.
-fn write_keyed(text: &mut Growing, word: &[u8], key: &Spoken) -> Result<(), NoMemory>
+fn write_keyed(text: &mut Text, word: &[u8], key: &Spoken) -> Result<(), NoMemory>
     ensures { OnOk result (text.new ≡ text.old ++ behind_blanks (word.now ∷ key_word key.now ∷ [])) }
 {
     text.word(word)?;
@@ -111,15 +111,15 @@ fn write_keyed(text: &mut Growing, word: &[u8], key: &Spoken) -> Result<(), NoMe
 }
 
 /// A first word, a key and a number.
-fn write_counted(text: &mut Growing, word: &[u8], key: &Spoken, number: u32) -> Result<(), NoMemory>
+fn write_counted(text: &mut Text, word: &[u8], key: &Spoken, number: u32) -> Result<(), NoMemory>
     ensures { OnOk result (text.new ≡ text.old ++ behind_blanks (word.now ∷ key_word key.now ∷ decimal number ∷ [])) }
 {
     write_keyed(text, word, key)?;
-    text.number(number)
+    text.number_word(u64::from(number))
 }
 
 /// A first word, a directory and a name in it.
-fn write_named(text: &mut Growing, word: &[u8], dir: &Spoken, name: &Word) -> Result<(), NoMemory>
+fn write_named(text: &mut Text, word: &[u8], dir: &Spoken, name: &Word) -> Result<(), NoMemory>
     ensures { OnOk result (text.new ≡ text.old ++ behind_blanks (word.now ∷ key_word dir.now ∷ name.now ∷ [])) }
 {
     write_keyed(text, word, dir)?;
@@ -127,7 +127,7 @@ fn write_named(text: &mut Growing, word: &[u8], dir: &Spoken, name: &Word) -> Re
 }
 
 /// The variable that takes a key, if one does.
-fn write_bind(text: &mut Growing, bind: &Option<Var>) -> Result<(), NoMemory>
+fn write_bind(text: &mut Text, bind: &Option<Var>) -> Result<(), NoMemory>
     ensures { OnOk result (text.new ≡ text.old ++ behind_blanks (as_part bind.now)) }
 {
     match bind {
@@ -140,7 +140,7 @@ fn write_bind(text: &mut Growing, bind: &Option<Var>) -> Result<(), NoMemory>
 }
 
 /// The word behind which a list begins, if there is one.
-fn write_after(text: &mut Growing, after: &Option<Word>) -> Result<(), NoMemory>
+fn write_after(text: &mut Text, after: &Option<Word>) -> Result<(), NoMemory>
     ensures { OnOk result (text.new ≡ text.old ++ behind_blanks (after_part after.now)) }
 {
     match after {
@@ -154,7 +154,7 @@ fn write_after(text: &mut Growing, after: &Option<Word>) -> Result<(), NoMemory>
 
 /// A host, and a number of a directive or of turns.
 pub fn write_awaited(
-    text: &mut Growing,
+    text: &mut Text,
     hosts: &[HostPlan],
     host: HostNo,
     number: u32,
@@ -162,7 +162,7 @@ pub fn write_awaited(
     ensures { OnOk result (text.new ≡ text.old ++ behind_blanks (name_at (names_of hosts.now) host ∷ decimal number ∷ [])) }
 {
     text.word(name_of(hosts, host))?;
-    text.number(number)
+    text.number_word(u64::from(number))
 }
 
 /// The name of a host; none where there is no such host.
