@@ -1,4 +1,5 @@
 pub mod LogValues
+pub mod Logged
 pub mod Slots
 pub mod Store
 pub mod Moments
