@@ -4,6 +4,7 @@
 #[cfg(test)]
 mod big_tests;
 mod builders;
+mod call_kinds;
 mod calls;
 mod changes;
 mod counts;
@@ -22,6 +23,7 @@ mod trees;
 mod variables;
 
 pub use builders::TreeBuilder;
+pub use call_kinds::{CallKind, call_word, kind_of_call};
 pub use calls::{Call, CallOf, HostCall, HostCallOf, TreeReply};
 pub use scenarios::{Directive, HostPlan, Items, Point, Scenario};
 pub use trees::Tree;
