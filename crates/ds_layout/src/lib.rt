@@ -3,8 +3,6 @@
 
 mod places;
 mod regions;
-#[cfg(test)]
-mod tests;
 mod volume;
 
 pub use places::{Place, place_of, sector_of, total};

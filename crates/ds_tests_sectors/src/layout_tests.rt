@@ -1,5 +1,5 @@
-use crate::{Place, decode_fs, decode_vol, encode_fs, encode_vol, place_of, sector_of, total};
 use ds_base::{Geom, Kind, Sector};
+use ds_layout::{Place, decode_fs, decode_vol, encode_fs, encode_vol, place_of, sector_of, total};
 use std::test::Fail;
 use uuid::Uuid;
 

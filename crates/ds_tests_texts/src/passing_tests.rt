@@ -2,8 +2,8 @@
 ghost use Rattle.std.specs.Prelude.{IsTrue};
 ghost use Rattle.ds_script.specs.Passing.{AreNumbered};
 
-use crate::passing::{Pass, plain_pass};
 use ds_base::{Geom, HostNo, Word};
+use ds_script::{Pass, plain_pass};
 use ds_tree::{Directive, HostCallOf, HostPlan, Items, Point, Scenario};
 use std::alloc::Global;
 use std::test::Fail;

@@ -1,5 +1,5 @@
-use crate::{Header, Journal, Owner, Slot, SlotState};
 use ds_base::Sector;
+use ds_marks::{Header, Journal, Owner, Slot, SlotState};
 use uuid::Uuid;
 
 const ID: [u8; 16] = [1, 2, 3, 4, 5, 6, 7, 8, 9, 10, 11, 12, 13, 14, 15, 16];

@@ -1,10 +1,10 @@
 //! Worked commands: what is read of their bytes, how they are answered, and what the device holds then.
 ghost use Rattle.std.specs.Prelude.{◌≡◌, length};
 
-use crate::{ScsiReply, execute, send};
 use ds_base::{Command, Response, Sector};
 use ds_lun::MemLun;
 use ds_scsi::{Cdb, CdbFault, cdb_of, in_len, out_len, read_cdb};
+use ds_target::{ScsiReply, execute, send};
 use std::alloc::Global;
 use std::process::Abort;
 use std::test::Fail;

@@ -1,7 +1,6 @@
 //! Which texts are read, and where the others are bad.
-use crate::faults::{LineFault, ScriptFault, What};
-use crate::reading::{read, read_volume};
 use ds_base::{Geom, Kind};
+use ds_script::{LineFault, ScriptFault, What, read, read_volume};
 use ds_tree::{Directive, HostPlan};
 use std::alloc::Global;
 use std::test::Fail;

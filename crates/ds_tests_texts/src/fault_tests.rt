@@ -1,6 +1,5 @@
 //! Which fault of a line is told: the first from left to right, and the want of a call behind all others.
-use crate::faults::{LineFault, ScriptFault};
-use crate::reading::read;
+use ds_script::{LineFault, ScriptFault, read};
 use std::alloc::Global;
 use std::test::Fail;
 

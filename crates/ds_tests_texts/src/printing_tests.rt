@@ -1,6 +1,5 @@
 //! What is printed of scenarios, and that it is read as the same scenario.
-use crate::printing::print;
-use crate::reading::read;
+use ds_script::{print, read};
 use ds_tree::Scenario;
 use std::alloc::Global;
 use std::test::Fail;
