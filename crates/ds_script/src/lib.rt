@@ -4,8 +4,6 @@
 mod arming;
 mod directives;
 mod drafts;
-#[cfg(test)]
-mod fault_tests;
 mod faults;
 mod fields;
 mod items;
@@ -14,14 +12,8 @@ mod limits;
 mod lines;
 mod numbers;
 mod passing;
-#[cfg(test)]
-mod passing_tests;
 mod printing;
-#[cfg(test)]
-mod printing_tests;
 mod reading;
-#[cfg(test)]
-mod reading_tests;
 mod spelling;
 
 pub use faults::{LineFault, ScriptFault, What};
