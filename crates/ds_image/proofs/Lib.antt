@@ -43,3 +43,4 @@ pub mod SpellingParts
 pub mod TreeParts
 pub mod TreesThatStand
 pub mod WalkingParents
+pub mod Reaching

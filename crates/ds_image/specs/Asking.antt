@@ -9,12 +9,13 @@ use Rattle.ds_base.specs.declared.sectors.Sector.{Sector}
 use Rattle.ds_fd.specs.declared.body.Body.{Body}
 use Rattle.ds_layout.specs.Places.{IsLock}
 use Rattle.ds_tree.specs.Nodes.{FileTree}
-use Rattle.ds_tree.specs.Steps.{Does}
+use Rattle.ds_tree.specs.Steps.{Does, IsNextLife, has_change, refusal}
 use Rattle.ds_tree.specs.declared.calls.CallOf.{CallOf}
 use Rattle.ds_tree.specs.declared.calls.CallOf.TheVariants.{Mkdir, Create}
 use Rattle.ds_tree.specs.declared.calls.TreeReply.{TreeReply}
 use Rattle.ds_tree.specs.declared.calls.TreeReply.TheVariants.{AtBlock}
 use Rattle.ds_image.specs.Guards.{IsGuard}
+use Rattle.ds_image.specs.Locks.{IsClear}
 use Rattle.ds_image.specs.Logical.{laid_over}
 use Rattle.ds_image.specs.Looks.{IsBlock}
 use Rattle.ds_image.specs.Metadata.{IsMetadata}
@@ -45,18 +46,22 @@ pub record AreTargets (g : Geom) (targets : List ℕ) : Type 0 where
 abbrev pub targets_of : List Pair → List ℕ
 targets_of pairs = map (λ (pair : Pair). pair.0) pairs
 
--- a descriptor that is not in use, and whose last birth is the greatest that a body can hold
-pub record IsWorn (p : Parts) (object : ℕ) : Type 0 where
-  pub body : Body
-  pub there : part_at p.bodies object ≡ Some body
-  pub unused : body.kind ≡ None
-  pub last : body.birth ≡ 2 ^ 62
-
 -- whether the call makes a new object
 abbrev pub makes_object : CallOf Key → Bool
 makes_object (Mkdir dir name) = true
 makes_object (Create dir name) = true
 makes_object _ = false
+
+-- the descriptor of a new object, which the call holds: its bit is clear in a bitmap that was seen, it is not in use, and its last
+-- birth is the greatest that a body can hold
+pub record IsWorn (g : Geom) (call : CallOf Key) (seen : SeenValue) (p : Parts) (object : ℕ) : Type 0 where
+  pub makes : makes_object call ≡ true
+  pub clear : IsClear g p object
+  pub held : has_lock seen object ≡ true
+  pub body : Body
+  pub there : part_at p.bodies object ≡ Some body
+  pub unused : body.kind ≡ None
+  pub last : body.birth ≡ 2 ^ 62
 
 -- a block in a reply is one of the geometry
 abbrev pub HasItsBlock : Geom → TreeReply → Type 0
@@ -75,16 +80,19 @@ abbrev pub HasForm : Geom → CallOf Key → SeenValue → Parts → Ask → Typ
 HasForm g call seen p (Lock object) = IsLock g object × (has_lock seen object ≡ false)
 HasForm g call seen p (Read at) = IsReadable g seen at
 HasForm g call seen p (Odd at) = IsSome (look_of seen at)
-HasForm g call seen p (Worn object) = (makes_object call ≡ true) × IsWorn p object
+HasForm g call seen p (Worn object) = IsWorn g call seen p object
 HasForm g call seen p (Done reply) = HasItsBlock g reply
 HasForm g call seen p (Change redo reply) = AreTargets g (targets_of redo.pairs.items)
 
--- the pairs make of an image that stands for t one that stands for what the call makes of t, and the call holds the guard of
--- each target in both
+-- the call is not refused at t and changes it; the pairs make of an image that stands for t one that stands for what the call makes
+-- of t, where a new object has the next life of its number; and the call holds the guard of each target in both
 pub record IsRightChange (g : Geom) (call : CallOf Key) (seen : SeenValue) (image : List Sector) (t : FileTree) (pairs : List Pair) (reply : TreeReply) : Type 0 where
   pub u : FileTree
   pub stands : StandsFor g (laid_over image pairs) u
   pub does : Does g t call reply u
+  pub unrefused : refusal g t call ≡ None
+  pub changes : has_change t call ≡ true
+  pub next_life : IsNextLife t reply
   pub before : All (IsGuarded g seen image) (targets_of pairs)
   pub after : All (IsGuarded g seen (laid_over image pairs)) (targets_of pairs)
 

@@ -1,6 +1,6 @@
 -- The objects that the parts of an image spell: which items a descriptor's body lists, and the node that it stands for.
 -- What depends on the kind of a body takes the kind beside the body.
-use Rattle.std.specs.Prelude.{ℕ, ◌*◌, Bool, false, nat_le, is_some, if◌then◌else◌, List, [], map, take, drop, Option, Some, None}
+use Rattle.std.specs.Prelude.{ℕ, ◌*◌, Bool, false, nat_le, is_some, if◌then◌else◌, List, [], ◌∷◌, bytes_eq, map, take, drop, Option, Some, None}
 use Rattle.std.specs.List.{flat_map, filter_map}
 use Rattle.std.specs.FinMap as finite
 use Rattle.ds_base.specs.declared.names.NodeKind.{NodeKind}
@@ -94,3 +94,8 @@ tail_of p (Some b) = tail_by p b b.kind
 abbrev pub is_used : Option Body → Bool
 is_used None = false
 is_used (Some b) = is_some b.kind
+
+-- the first entry of a name
+abbrev pub entry_named : List Entry → List ℕ → Option Entry
+entry_named [] name = None
+entry_named (e ∷ es) name = if bytes_eq name e.name then Some e else entry_named es name

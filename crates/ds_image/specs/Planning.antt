@@ -1,9 +1,10 @@
 -- The law of planners: what holds of all their answers.
-use Rattle.std.specs.Prelude.{◌≡◌}
+use Rattle.std.specs.Prelude.{◌≡◌, ℕ}
 use Rattle.ds_base.specs.declared.geometry.Geom.{Geom}
 use Rattle.ds_base.specs.declared.names.Key.{Key}
 use Rattle.ds_tree.specs.declared.calls.CallOf.{CallOf}
 use Rattle.ds_image.specs.Asking.{Keeps, Reached, IsFew}
+use Rattle.ds_image.specs.Locks.{IsAllowed}
 use Rattle.ds_image.specs.Parts.{Parts}
 use Rattle.ds_image.specs.Readings.{Reads}
 use Rattle.ds_image.specs.SeenValues.{SeenValue, look_of}
@@ -26,3 +27,8 @@ AllKeep g call answers = (seen : SeenValue) (p : Parts) → Reads g (look_of see
 -- nowhere too much is asked for
 abbrev pub AllAreFew : Geom → Answers → Type 0
 AllAreFew g answers = (seen : SeenValue) (p : Parts) → Reads g (look_of seen) p → Reached (Asks g answers) seen → IsFew seen (answers seen p)
+
+-- only the locks that the call may take are asked for, for a host with this slot
+abbrev pub AllAreAllowed : Geom → ℕ → CallOf Key → Answers → Type 0
+AllAreAllowed g slot call answers =
+    (seen : SeenValue) (p : Parts) → Reads g (look_of seen) p → IsAllowed g slot call p (answers seen p)

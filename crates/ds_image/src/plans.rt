@@ -1,12 +1,12 @@
 //! Planners of calls.
-ghost use Rattle.std.specs.Prelude.{◌≡◌};
+ghost use Rattle.std.specs.Prelude.{◌≡◌, ℕ};
 ghost use Rattle.ds_base.specs.Geometry.{IsGeom};
 ghost use Rattle.ds_base.specs.declared.geometry.Geom.{Geom};
 ghost use Rattle.ds_base.specs.declared.names.Key.{Key};
 ghost use Rattle.ds_tree.specs.CallNames.{HasNames};
 ghost use Rattle.ds_tree.specs.declared.calls.CallOf.{CallOf};
 ghost use Rattle.ds_image.specs.Parts.{Parts};
-ghost use Rattle.ds_image.specs.Planning.{Answers, AllKeep, AllAreFew};
+ghost use Rattle.ds_image.specs.Planning.{Answers, AllAreAllowed, AllAreFew, AllKeep};
 ghost use Rattle.ds_image.specs.Readings.{Reads};
 ghost use Rattle.ds_image.specs.SeenValues.{look_of};
 
@@ -17,6 +17,9 @@ use crate::seen::Seen;
 pub trait Plan {
     /// The shape of the volume.
     ghost geom: { Self → Geom };
+
+    /// The host's slot, from whose number on clusters are tried.
+    ghost slot: { Self → ℕ };
 
     /// The call.
     ghost call: { Self → CallOf Key };
@@ -32,4 +35,7 @@ pub trait Plan {
 
     /// With what it asks for a call holds at most 24 locks, and has read at most 256 sectors.
     ghost few: { (plan : Self) → IsGeom (geom plan) → HasNames (call plan) → AllAreFew (geom plan) (answers plan) };
+
+    /// It asks for no lock but those that the call may take.
+    ghost allowed: { (plan : Self) → IsGeom (geom plan) → HasNames (call plan) → AllAreAllowed (geom plan) (slot plan) (call plan) (answers plan) };
 }

@@ -4,7 +4,7 @@ use Rattle.ds_base.specs.declared.geometry.Geom.{Geom}
 use Rattle.ds_base.specs.declared.names.Key.{Key}
 use Rattle.ds_image.specs.Planning.{Answers}
 use Rattle.ds_plan_make.specs.Answers as making
-use Rattle.ds_names.specs.Answers as reading
+use Rattle.ds_plan_dirs.specs.Answers as reading
 use Rattle.ds_names.specs.declared.names.Names.{Names}
 use Rattle.ds_names.specs.declared.names.Names.TheVariants.{Reads, Makes, Removes, Renames}
 use Rattle.ds_plan_remove.specs.Answers as removing

@@ -1,52 +1,29 @@
--- The planner of calls that read names keeps the law of planners.
-use Rattle.std.proofs.Common.{◌≡◌, ℕ, refl, sym, subst, arith}
-use Rattle.std.specs.List.{Contains}
+-- The planner of calls on names keeps the law of planners.
 use Rattle.ds_base.specs.Geometry.{IsGeom}
-use Rattle.ds_base.specs.declared.geometry.Geom.{Geom}
-use Rattle.ds_base.specs.declared.names.Key.{Key}
-use Rattle.ds_image.specs.Parts.{Parts}
-use Rattle.ds_image.specs.Planning.{AllKeep, AllAreFew}
-use Rattle.ds_image.specs.Readings.{Reads}
-use Rattle.ds_image.specs.SeenValues.{SeenValue, look_of}
-use Rattle.ds_image.specs.declared.asks.Ask.{Ask}
-use Rattle.ds_names.specs.Answers.{ReadsValue, call_of, answers_of}
-use Rattle.ds_names.specs.Lists.{list_asks}
-use Rattle.ds_names.specs.Lookups.{lookup_asks}
-use Rattle.ds_names.specs.declared.reading.ReadCall.{ReadCall}
-use Rattle.ds_names.specs.declared.reading.ReadCall.TheVariants as kept
-use Rattle.ds_plan_base.specs.DirAsks.{DirAsks}
-use Rattle.ds_plan_base.specs.Locks.{IsAllowed, keys_of}
-use Rattle.ds_plan_base.proofs.DirLaws.{dir_keeps, dir_few, dir_allowed}
+use Rattle.ds_image.specs.Planning.{AllAreAllowed, AllAreFew, AllKeep}
+use Rattle.ds_plan_make.proofs.Laws.{make_allowed, make_few, make_keeps}
+use Rattle.ds_names.specs.Calls.{answers_of, call_of, geom_of, slot_of}
+use Rattle.ds_plan_dirs.proofs.Laws.{reads_allowed, reads_few, reads_keep}
+use Rattle.ds_names.specs.declared.names.Names.{Names}
+use Rattle.ds_names.specs.declared.names.Names.TheVariants.{Reads, Makes, Removes, Renames}
+use Rattle.ds_plan_remove.proofs.Laws.{remove_allowed, remove_few, remove_keeps}
+use Rattle.ds_plan_rename.proofs.Laws.{rename_allowed, rename_few, rename_keeps}
 use Rattle.ds_tree.specs.CallNames.{HasNames}
 
--- the directory of a call
-abbrev dir_of : ReadCall → Key
-dir_of (kept.Lookup dir name) = dir
-dir_of (kept.List dir above) = dir
+pub names_keep : (plan : Names) → IsGeom (geom_of plan) → HasNames (call_of plan) → AllKeep (geom_of plan) (call_of plan) (answers_of plan)
+names_keep (Reads plan) = reads_keep plan
+names_keep (Makes plan) = make_keeps plan
+names_keep (Removes plan) = remove_keeps plan
+names_keep (Renames plan) = rename_keeps plan
 
-asks_of : (g : Geom) (slot : ℕ) (call : ReadCall) (seen : SeenValue) (p : Parts) → Reads g (look_of seen) p
-    → DirAsks g (call_of call) (dir_of call).object seen p (answers_of (record { geom = g; slot = slot; call = call }) seen p)
-asks_of g slot (kept.Lookup dir name) seen p reads = lookup_asks g dir name seen p reads
-asks_of g slot (kept.List dir above) seen p reads = list_asks g dir above seen p reads
+pub names_few : (plan : Names) → IsGeom (geom_of plan) → HasNames (call_of plan) → AllAreFew (geom_of plan) (answers_of plan)
+names_few (Reads plan) = reads_few plan
+names_few (Makes plan) = make_few plan
+names_few (Removes plan) = remove_few plan
+names_few (Renames plan) = rename_few plan
 
-has_dir : (call : ReadCall) → Contains (keys_of (call_of call)) (dir_of call)
-has_dir (kept.Lookup dir name) = (0, omega arith, refl)
-has_dir (kept.List dir above) = (0, omega arith, refl)
-
-pub reads_keep : (plan : ReadsValue) → IsGeom plan.geom → HasNames (call_of plan.call) → AllKeep plan.geom (call_of plan.call) (answers_of plan)
-reads_keep plan is names seen p reads =
-    dir_keeps plan.geom (call_of plan.call) (dir_of plan.call).object seen p (answers_of plan seen p) (asks_of plan.geom plan.slot plan.call seen p reads)
-
-pub reads_few : (plan : ReadsValue) → IsGeom plan.geom → HasNames (call_of plan.call) → AllAreFew plan.geom (answers_of plan)
-reads_few plan is names =
-    dir_few plan.geom (call_of plan.call) (dir_of plan.call).object (answers_of plan) (λ seen p reads. asks_of plan.geom plan.slot plan.call seen p reads)
-
-reads_allowed : (plan : ReadsValue) (seen : SeenValue) (p : Parts) → Reads plan.geom (look_of seen) p
-    → IsAllowed plan.geom plan.slot (call_of plan.call) p (answers_of plan seen p)
-reads_allowed plan seen p reads =
-    dir_allowed plan.geom plan.slot (call_of plan.call) (dir_of plan.call) seen p (answers_of plan seen p) (has_dir plan.call)
-    (asks_of plan.geom plan.slot plan.call seen p reads)
-
-pub allowed_as : (plan : ReadsValue) (seen : SeenValue) (p : Parts) (ask : Ask) → ask ≡ answers_of plan seen p → Reads plan.geom (look_of seen) p
-    → IsAllowed plan.geom plan.slot (call_of plan.call) p ask
-allowed_as plan seen p ask is reads = subst (IsAllowed plan.geom plan.slot (call_of plan.call) p) (sym is) (reads_allowed plan seen p reads)
+pub names_allowed : (plan : Names) → IsGeom (geom_of plan) → HasNames (call_of plan) → AllAreAllowed (geom_of plan) (slot_of plan) (call_of plan) (answers_of plan)
+names_allowed (Reads plan) = reads_allowed plan
+names_allowed (Makes plan) = make_allowed plan
+names_allowed (Removes plan) = remove_allowed plan
+names_allowed (Renames plan) = rename_allowed plan

@@ -1,9 +1,6 @@
-//! Planners of the calls on names: how a call finds out what it answers or writes, lock by lock and sector by sector.
+//! The planner of the calls on names: it is the planner of the call that is made.
 #![tactic(auto)]
 
-mod listing;
 mod names;
-mod reading;
 
 pub use names::Names;
-pub use reading::{DirReads, ReadCall};

@@ -4,7 +4,7 @@ ghost use Rattle.ds_base.specs.Geometry.{IsGeom};
 ghost use Rattle.ds_names.specs.Calls.{IsOnNames, call_of, geom_of, slot_of};
 ghost use Rattle.ds_tree.specs.CallNames.{HasNames};
 
-use crate::reading::DirReads;
+use ds_plan_dirs::DirReads;
 use ds_base::{Geom, SlotNo};
 use ds_image::{Ask, Plan, Seen};
 use ds_plan_make::Make;
@@ -51,19 +51,18 @@ impl Plan for Names {
     ghost use Rattle.ds_image.specs.Readings.{Reads};
     ghost use Rattle.ds_image.specs.SeenValues.{look_of};
     ghost use Rattle.ds_names.specs.Calls.{answers_of, call_of, geom_of, slot_of};
-    ghost use Rattle.ds_names.specs.NamesLaws.{names_keep, names_few};
-    ghost use Rattle.ds_plan_base.specs.Locks.{IsAllowed};
+    ghost use Rattle.ds_names.specs.Laws.{names_allowed, names_few, names_keep};
 
     ghost geom = { geom_of };
+
+    ghost slot = { slot_of };
 
     ghost call = { call_of };
 
     ghost answers = { answers_of };
 
     fn ask(&self, seen: &Seen) -> Ask
-        ensures answer { (p : Parts) → Reads (geom_of self.now) (look_of seen.now) p → result ≡ answers_of self.now seen.now p }
-        ensures locks { (p : Parts) → Reads (geom_of self.now) (look_of seen.now) p
-            → IsAllowed (geom_of self.now) (slot_of self.now) (call_of self.now) p result }
+        ensures { (p : Parts) → Reads (geom_of self.now) (look_of seen.now) p → result ≡ answers_of self.now seen.now p }
     {
         match self {
             Names::Reads(plan) => plan.ask(seen),
@@ -76,4 +75,6 @@ impl Plan for Names {
     ghost keeps = { names_keep };
 
     ghost few = { names_few };
+
+    ghost allowed = { names_allowed };
 }

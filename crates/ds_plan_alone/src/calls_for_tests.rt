@@ -1,12 +1,12 @@
 //! The calls of the tests.
 ghost use Rattle.std.specs.Prelude.{◌≡◌, true, IsTrue};
 ghost use Rattle.ds_names.specs.Calls.{IsOnNames};
-ghost use Rattle.ds_read.specs.Questions.{is_reading};
-ghost use Rattle.ds_space.specs.Answers.{IsResize};
+ghost use Rattle.ds_plan_reads.specs.Questions.{is_reading};
+ghost use Rattle.ds_plan_resize.specs.Answers.{IsResize};
 ghost use Rattle.ds_tree.specs.CallNames.{HasNames};
 
 use ds_base::{Key, Name, Word};
-use ds_read::Question;
+use ds_plan_reads::Question;
 use ds_tree::{Call, CallOf};
 use std::process::Abort;
 

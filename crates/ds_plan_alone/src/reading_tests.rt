@@ -6,7 +6,7 @@ use crate::volumes_for_tests::{Volume, entry};
 use ds_base::{Geom, Key, Kind, NodeKind, Sector, SectorNo};
 use ds_image::Ask;
 use ds_ptr::PtrBlock;
-use ds_read::Question;
+use ds_plan_reads::Question;
 use ds_tree::TreeReply;
 use std::alloc::Global;
 use std::process::Abort;

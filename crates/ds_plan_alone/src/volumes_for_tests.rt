@@ -12,7 +12,7 @@ use ds_jrnl::Redo;
 use ds_layout::total;
 use ds_lun::MemLun;
 use ds_names::Names;
-use ds_read::Reads;
+use ds_plan_reads::Reads;
 use ds_space::Space;
 use ds_tree::{Call, Tree, TreeReply};
 use std::alloc::Global;

@@ -19,7 +19,7 @@ use Rattle.ds_layout.specs.declared.places.Place.TheVariants as places
 use Rattle.ds_image.specs.SeenValues.{SeenValue}
 use Rattle.ds_plan_base.specs.Items.{first_clear, map_seen, item_or, item_from}
 use Rattle.ds_plan_base.specs.declared.items.FreeItem.{FreeItem}
-use Rattle.ds_plan_base.specs.Locks.{cluster_tried}
+use Rattle.ds_image.specs.Locks.{cluster_tried}
 use Rattle.ds_plan_base.specs.Steps.{after}
 use Rattle.ds_plan_base.specs.declared.stops.Stop.{Stop}
 

@@ -16,8 +16,8 @@ use Rattle.ds_image.specs.declared.asks.Ask.TheVariants as asks
 use Rattle.ds_layout.specs.Places.{place_sector}
 use Rattle.ds_layout.specs.declared.places.Place.TheVariants as places
 use Rattle.ds_plan_base.specs.Bodies.{body_seen}
-use Rattle.ds_plan_base.specs.Goes.{Goes}
-use Rattle.ds_plan_base.specs.PlanAsks.{PlanAsks}
+use Rattle.ds_plan_base.proofs.Goes.{Goes}
+use Rattle.ds_plan_base.proofs.PlanAsks.{PlanAsks}
 use Rattle.ds_plan_base.proofs.Dirs.{body_in}
 use Rattle.ds_plan_base.proofs.Going.{goes-part}
 use Rattle.ds_tree.specs.declared.calls.CallOf.{CallOf}

@@ -28,8 +28,8 @@ use Rattle.ds_image.specs.declared.asks.Ask.TheVariants as asks
 use Rattle.ds_image.proofs.Seeing.{sector_in-append}
 use Rattle.ds_layout.specs.Places.{place_sector}
 use Rattle.ds_layout.specs.declared.places.Place.TheVariants as places
-use Rattle.ds_plan_base.specs.DirAsks.{dir_sectors, DirAsks}
-use Rattle.ds_plan_base.specs.Locks.{MayLock, IsAllowed, keys_of, of_key}
+use Rattle.ds_plan_base.proofs.DirAsks.{dir_sectors, DirAsks}
+use Rattle.ds_image.specs.Locks.{MayLock, IsAllowed, keys_of, of_key}
 use Rattle.ds_plan_base.proofs.Alike.{body_alike, body_unread}
 use Rattle.ds_plan_base.proofs.Growing.{numbers_read, unread-is_new, any-one, nothing_twice, either}
 use Rattle.ds_plan_base.proofs.Limits.{few_subs}

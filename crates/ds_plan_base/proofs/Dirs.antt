@@ -25,9 +25,9 @@ use Rattle.ds_image.proofs.TreeParts.{object-is}
 use Rattle.ds_layout.specs.Places.{place_sector}
 use Rattle.ds_layout.specs.declared.places.Place.TheVariants as places
 use Rattle.ds_plan_base.specs.Bodies.{body_seen, body_alive, body_of_key, dir_by, body_of_dir, dir_of_key}
-use Rattle.ds_plan_base.specs.DirAsks.{DirAsks}
-use Rattle.ds_plan_base.specs.DirSeen.{HasDir}
-use Rattle.ds_plan_base.specs.Goes.{Goes}
+use Rattle.ds_plan_base.proofs.DirAsks.{DirAsks}
+use Rattle.ds_plan_base.proofs.DirSeen.{HasDir}
+use Rattle.ds_plan_base.proofs.Goes.{Goes}
 use Rattle.ds_plan_base.proofs.Alike.{body_alike}
 use Rattle.ds_plan_base.proofs.Going.{goes-after, goes-if, goes-part}
 use Rattle.ds_tree.specs.Nodes.{FileTree, Node, Dir, File, Object, object_at, node_of_key}

@@ -38,10 +38,11 @@ use Rattle.ds_image.proofs.SoundParts.{list-is}
 use Rattle.ds_layout.specs.Places.{place_sector, cluster_lock}
 use Rattle.ds_layout.specs.declared.places.Place.TheVariants as places
 use Rattle.ds_plan_base.specs.Bodies.{part_seen, sub_seen}
-use Rattle.ds_plan_base.specs.DirAsks.{DirAsks}
-use Rattle.ds_plan_base.specs.DirSeen.{HasDir, HasSub, said_entry, IsFoundIn, AreAllIn}
-use Rattle.ds_plan_base.specs.Entries.{entry_named, named_among, found_at, found_from, found_in, subs_known}
-use Rattle.ds_plan_base.specs.Goes.{Goes}
+use Rattle.ds_plan_base.proofs.DirAsks.{DirAsks}
+use Rattle.ds_plan_base.proofs.DirSeen.{HasDir, HasSub, said_entry, IsFoundIn, AreAllIn}
+use Rattle.ds_plan_base.specs.Entries.{named_among, found_at, found_from, found_in, subs_known}
+use Rattle.ds_image.specs.Objects.{entry_named}
+use Rattle.ds_plan_base.proofs.Goes.{Goes}
 use Rattle.ds_plan_base.specs.Steps.{or_later}
 use Rattle.ds_plan_base.specs.declared.entries.Named.{Named}
 use Rattle.ds_plan_base.proofs.Alike.{sub_alike}

@@ -10,7 +10,8 @@ use Rattle.ds_image.specs.Parts.{Parts}
 use Rattle.ds_image.specs.Readings.{Reads}
 use Rattle.ds_image.specs.SeenValues.{SeenValue, look_of}
 use Rattle.ds_plan_base.specs.Bodies.{sub_seen}
-use Rattle.ds_plan_base.specs.Entries.{entry_named, named_among, found_at, found_from, found_in, entry_by, wanted_entry}
+use Rattle.ds_plan_base.specs.Entries.{named_among, found_at, found_from, found_in, entry_by, wanted_entry}
+use Rattle.ds_image.specs.Objects.{entry_named}
 use Rattle.ds_plan_base.specs.Objects.{IsFoundRoom}
 use Rattle.ds_plan_base.specs.Steps.{or_later}
 use Rattle.ds_plan_base.specs.declared.entries.Found.{Found}

@@ -25,10 +25,10 @@ use Rattle.ds_image.proofs.Places.{marked-within}
 use Rattle.ds_layout.specs.Places.{cluster_lock, place_sector}
 use Rattle.ds_layout.specs.declared.places.Place.TheVariants as places
 use Rattle.ds_plan_base.specs.Giving.{some_outside, is_touched, map_without, or_odd, map_left, maps_from, maps_left}
-use Rattle.ds_plan_base.specs.Goes.{Goes}
+use Rattle.ds_plan_base.proofs.Goes.{Goes}
 use Rattle.ds_plan_base.specs.Items.{map_read, map_seen}
-use Rattle.ds_plan_base.specs.Locks.{GivesUp, to_give, MayLock}
-use Rattle.ds_plan_base.specs.PlanAsks.{PlanAsks, HasMap}
+use Rattle.ds_image.specs.Locks.{GivesUp, to_give, MayLock}
+use Rattle.ds_plan_base.proofs.PlanAsks.{PlanAsks, HasMap}
 use Rattle.ds_plan_base.proofs.Going.{goes-after, goes-if, goes-weaker}
 use Rattle.ds_plan_base.proofs.ItemWalk.{goes-known}
 use Rattle.ds_plan_base.proofs.Limits.{if-ok, map_alike, part-known}

@@ -5,7 +5,7 @@ use Rattle.ds_base.specs.declared.sectors.Sector.{Sector}
 use Rattle.ds_image.specs.declared.asks.Ask.{Ask}
 use Rattle.ds_image.specs.declared.asks.Ask.TheVariants.{Read, Odd, Done}
 use Rattle.ds_plan_base.specs.Bodies.{part_seen}
-use Rattle.ds_plan_base.specs.Goes.{Goes}
+use Rattle.ds_plan_base.proofs.Goes.{Goes}
 use Rattle.ds_plan_base.specs.Steps.{after, settled}
 use Rattle.ds_plan_base.specs.declared.stops.Stop.{Stop}
 use Rattle.ds_tree.specs.declared.calls.TreeReply.{TreeReply}

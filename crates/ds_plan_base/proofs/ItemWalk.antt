@@ -29,10 +29,10 @@ use Rattle.ds_plan_base.proofs.Bitmaps.{tried-within, first_clear-free}
 use Rattle.ds_plan_base.specs.Items.{first_clear, map_seen, item_or, item_from, free_item, wanted_by, wanted_item}
 use Rattle.ds_plan_base.proofs.Limits.{map_alike}
 use Rattle.ds_plan_base.proofs.MapWalk.{map_goes}
-use Rattle.ds_plan_base.specs.PlanAsks.{PlanAsks, HasMap, HasFull, HasItem}
+use Rattle.ds_plan_base.proofs.PlanAsks.{PlanAsks, HasMap, HasFull, HasItem}
 use Rattle.ds_plan_base.specs.declared.items.FreeItem.{FreeItem}
-use Rattle.ds_plan_base.specs.Goes.{Goes}
-use Rattle.ds_plan_base.specs.Locks.{to_take, Needs, cluster_tried, map_tried, clear_in}
+use Rattle.ds_plan_base.proofs.Goes.{Goes}
+use Rattle.ds_image.specs.Locks.{to_take, Needs, cluster_tried, map_tried, clear_in}
 use Rattle.ds_plan_base.proofs.Going.{goes-after}
 use Rattle.ds_plan_base.specs.declared.stops.Stop.{Stop}
 use Rattle.ds_plan_base.proofs.Alike.{some-there}

@@ -18,3 +18,7 @@ pub mod MapsLeft
 pub mod NewBodies
 pub mod PlanLaws
 pub mod Wholes
+pub mod DirAsks
+pub mod DirSeen
+pub mod Goes
+pub mod PlanAsks

@@ -31,8 +31,8 @@ use Rattle.ds_plan_base.proofs.Growing.{Grows}
 use Rattle.ds_plan_base.specs.Items.{first_clear, map_read, map_seen, item_or, item_from, free_item}
 use Rattle.ds_plan_base.specs.declared.items.FreeItem.{FreeItem}
 use Rattle.ds_plan_base.specs.Bodies.{part_seen}
-use Rattle.ds_plan_base.specs.DirAsks.{dir_sectors}
-use Rattle.ds_plan_base.specs.Locks.{cluster_tried}
+use Rattle.ds_plan_base.proofs.DirAsks.{dir_sectors}
+use Rattle.ds_image.specs.Locks.{cluster_tried}
 use Rattle.ds_plan_base.specs.Steps.{after}
 use Rattle.ds_plan_base.proofs.Alike.{body_alike}
 use Rattle.ds_plan_base.specs.declared.stops.Stop.{Stop}

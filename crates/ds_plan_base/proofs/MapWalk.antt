@@ -14,9 +14,9 @@ use Rattle.ds_image.specs.declared.asks.Ask.{Ask}
 use Rattle.ds_image.specs.declared.asks.Ask.TheVariants as asks
 use Rattle.ds_layout.specs.Places.{cluster_lock, place_sector}
 use Rattle.ds_layout.specs.declared.places.Place.TheVariants as places
-use Rattle.ds_plan_base.specs.Goes.{Goes}
+use Rattle.ds_plan_base.proofs.Goes.{Goes}
 use Rattle.ds_plan_base.specs.Items.{map_read, map_seen}
-use Rattle.ds_plan_base.specs.PlanAsks.{PlanAsks, HasMap}
+use Rattle.ds_plan_base.proofs.PlanAsks.{PlanAsks, HasMap}
 use Rattle.ds_plan_base.proofs.Going.{goes-if, goes-part}
 use Rattle.ds_plan_base.proofs.Limits.{map_alike}
 use Rattle.ds_plan_base.specs.declared.stops.Stop.TheVariants as stops

@@ -12,8 +12,8 @@ use Rattle.ds_image.specs.SeenValues.{SeenValue, has_lock, look_of}
 use Rattle.ds_image.specs.Sound.{StandsFor}
 use Rattle.ds_image.specs.declared.asks.Ask.{Ask}
 use Rattle.ds_image.specs.declared.asks.Ask.TheVariants as asks
-use Rattle.ds_plan_base.specs.Locks.{IsAllowed}
-use Rattle.ds_plan_base.specs.PlanAsks.{PlanAsks}
+use Rattle.ds_image.specs.Locks.{IsAllowed}
+use Rattle.ds_plan_base.proofs.PlanAsks.{PlanAsks}
 use Rattle.ds_plan_base.proofs.Growing.{Grows, few_of}
 use Rattle.ds_tree.specs.Nodes.{FileTree}
 use Rattle.ds_tree.specs.declared.calls.CallOf.{CallOf}

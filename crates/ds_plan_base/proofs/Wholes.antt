@@ -32,16 +32,17 @@ use Rattle.ds_layout.specs.declared.places.Place.TheVariants as places
 use Rattle.ds_plan_base.proofs.ItemWalk.{goes-known}
 use Rattle.ds_plan_base.proofs.Known.{block-known}
 use Rattle.ds_plan_base.proofs.Limits.{after-ok}
-use Rattle.ds_plan_base.specs.PlanAsks.{PlanAsks, HasWhole}
+use Rattle.ds_plan_base.proofs.PlanAsks.{PlanAsks, HasWhole}
 use Rattle.ds_plan_base.specs.Rooms.{used_count, count_from, count_in, lacks_by, not_full, entries_before, free_in, room_from, room_in, room_for}
 use Rattle.ds_plan_base.specs.Stops.{ask_of}
 use Rattle.ds_plan_base.specs.declared.rooms.FreeRoom.{FreeRoom}
 use Rattle.ds_plan_base.specs.Bodies.{dir_of_key, sub_seen}
-use Rattle.ds_plan_base.specs.DirAsks.{dir_sectors, DirAsks}
-use Rattle.ds_plan_base.specs.DirSeen.{HasDir, HasSub, IsFoundIn, said_found, said_entry}
-use Rattle.ds_plan_base.specs.Entries.{entry_named, named_among, found_at, found_from, found_in}
-use Rattle.ds_plan_base.specs.Goes.{Goes}
-use Rattle.ds_plan_base.specs.Locks.{MayLock, of_key, keys_of, TakesName}
+use Rattle.ds_plan_base.proofs.DirAsks.{dir_sectors, DirAsks}
+use Rattle.ds_plan_base.proofs.DirSeen.{HasDir, HasSub, IsFoundIn, said_found, said_entry}
+use Rattle.ds_plan_base.specs.Entries.{named_among, found_at, found_from, found_in}
+use Rattle.ds_image.specs.Objects.{entry_named}
+use Rattle.ds_plan_base.proofs.Goes.{Goes}
+use Rattle.ds_image.specs.Locks.{MayLock, of_key, keys_of, TakesName}
 use Rattle.ds_plan_base.specs.Steps.{after, or_later}
 use Rattle.ds_plan_base.specs.declared.entries.Found.{Found}
 use Rattle.ds_plan_base.specs.declared.entries.Named.{Named}

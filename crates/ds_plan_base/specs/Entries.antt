@@ -15,11 +15,6 @@ use Rattle.ds_plan_base.specs.declared.stops.Ending.TheVariants as endings
 use Rattle.ds_plan_base.specs.declared.stops.Stop.{Stop}
 use Rattle.ds_plan_base.specs.declared.stops.Stop.TheVariants.{Done}
 
--- the first entry of a name
-abbrev pub entry_named : List Entry → List ℕ → Option Entry
-entry_named [] name = None
-entry_named (e ∷ es) name = if bytes_eq name e.name then Some e else entry_named es name
-
 -- the entry of a room that has the name; none of another name or of a free room
 abbrev pub room_named : ℕ → List ℕ → Option Entry → Option Named
 room_named room name None = None

@@ -10,7 +10,7 @@ use Rattle.ds_layout.specs.Places.{cluster_lock, place_sector}
 use Rattle.ds_layout.specs.declared.places.Place.TheVariants as places
 use Rattle.ds_plan_base.specs.declared.items.FreeItem.{FreeItem}
 use Rattle.ds_plan_base.specs.Bodies.{part_seen}
-use Rattle.ds_plan_base.specs.Locks.{cluster_tried}
+use Rattle.ds_image.specs.Locks.{cluster_tried}
 use Rattle.ds_plan_base.specs.Steps.{after}
 use Rattle.ds_plan_base.specs.declared.stops.Ending.TheVariants as endings
 use Rattle.ds_plan_base.specs.declared.stops.Stop.{Stop}

@@ -1,13 +1,8 @@
 pub mod Bodies
-pub mod DirAsks
-pub mod DirSeen
 pub mod Entries
 pub mod Giving
-pub mod Goes
 pub mod Items
-pub mod Locks
 pub mod Objects
-pub mod PlanAsks
 pub mod Pointers
 pub mod Redos
 pub mod Rooms

@@ -7,7 +7,7 @@ ghost use Rattle.ds_image.specs.Readings.{Reads};
 ghost use Rattle.ds_image.specs.SeenValues.{look_of};
 ghost use Rattle.ds_layout.specs.Places.{cluster_lock};
 ghost use Rattle.ds_plan_base.specs.Items.{IsFreeItem, first_clear, free_item, map_read, map_seen, number_of, wanted_item};
-ghost use Rattle.ds_plan_base.specs.Locks.{cluster_tried};
+ghost use Rattle.ds_image.specs.Locks.{cluster_tried};
 
 use crate::stops::{Ending, Stop};
 use ds_base::{Geom, Kind, ObjNo, SlotNo};

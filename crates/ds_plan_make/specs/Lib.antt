@@ -1,10 +1,3 @@
 pub mod Answers
-pub mod ChangeWalk
-pub mod Known
-pub mod Laws
-pub mod Limits
-pub mod NewBodies
 pub mod Objects
-pub mod ObjectWalk
 pub mod Redos
-pub mod Wholes

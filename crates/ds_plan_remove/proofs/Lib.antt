@@ -1,0 +1,13 @@
+pub mod BlocksSeen
+pub mod ChangeWalk
+pub mod ContentsWalk
+pub mod EntryWalk
+pub mod FoundEntries
+pub mod GivenUp
+pub mod Laws
+pub mod ObjectWalk
+pub mod Refusals
+pub mod Removed
+pub mod Staying
+pub mod TargetsGone
+pub mod Written

@@ -1,16 +1,3 @@
 pub mod Answers
 pub mod Blocks
-pub mod BlocksSeen
-pub mod ChangeWalk
-pub mod ContentsWalk
 pub mod Entries
-pub mod EntryWalk
-pub mod FoundEntries
-pub mod GivenUp
-pub mod Laws
-pub mod ObjectWalk
-pub mod Refusals
-pub mod Removed
-pub mod Staying
-pub mod TargetsGone
-pub mod Written

@@ -12,7 +12,7 @@ ghost use Rattle.ds_tree.specs.CallNames.{HasNames};
 use crate::entries::{body_named, entry_known};
 use crate::objects::{ended, object_given};
 use ds_base::{Geom, Key, Name, NodeKind, SlotNo, Word};
-use ds_image::{Ask, Plan, Seen};
+use ds_image::{Ask, Seen};
 use ds_jrnl::Redo;
 use ds_plan_base::{Stop, block_emptied, body_pair, dir_of_key, name_of, sub_pair};
 use ds_tree::{Call, CallOf, TreeReply};
@@ -81,11 +81,9 @@ impl Remove {
         }
     }
 
-    /// What is asked for, or how the call ends.
-    fn asked(&self, seen: &Seen) -> Ask
+    /// What the call needs next by what it has seen, or how it ends.
+    pub fn ask(&self, seen: &Seen) -> Ask
         ensures answer { (p : Parts) → Reads self.now.geom (look_of seen.now) p → result ≡ answers_of self.now seen.now p }
-        ensures geom { IsGeom self.now.geom }
-        ensures name { IsName self.now.name }
     {
         match self.change_known(seen) {
             Ok(Removing { redo, key }) => Ask::Change(redo, TreeReply::Gone { key }),
@@ -110,33 +108,4 @@ impl Remove {
             .push(sub_pair(&self.geom, number, &block_emptied(found)));
         Ok(Removing { redo, key })
     }
-}
-
-impl Plan for Remove {
-    ghost use Rattle.std.specs.Prelude.{◌≡◌};
-    ghost use Rattle.ds_image.specs.Parts.{Parts};
-    ghost use Rattle.ds_image.specs.Readings.{Reads};
-    ghost use Rattle.ds_image.specs.SeenValues.{look_of};
-    ghost use Rattle.ds_plan_base.specs.Locks.{IsAllowed};
-    ghost use Rattle.ds_plan_remove.specs.Answers.{answers_of, call_of};
-    ghost use Rattle.ds_plan_remove.specs.Laws.{remove_keeps, remove_few};
-
-    ghost geom = { λ plan. plan.geom };
-
-    ghost call = { call_of };
-
-    ghost answers = { answers_of };
-
-    #[tactic(auto, using(crate::specs::Laws::allowed_as))]
-    fn ask(&self, seen: &Seen) -> Ask
-        ensures answer { (p : Parts) → Reads self.now.geom (look_of seen.now) p → result ≡ answers_of self.now seen.now p }
-        ensures locks { (p : Parts) → Reads self.now.geom (look_of seen.now) p
-            → IsAllowed self.now.geom self.now.slot (call_of self.now) p result }
-    {
-        self.asked(seen)
-    }
-
-    ghost keeps = { remove_keeps };
-
-    ghost few = { remove_few };
 }

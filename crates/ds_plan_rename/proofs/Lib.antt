@@ -1,0 +1,6 @@
+pub mod Changes
+pub mod Holding
+pub mod Laws
+pub mod Refusals
+pub mod Targets
+pub mod Walk

@@ -1,9 +1,3 @@
 pub mod Answers
-pub mod Changes
 pub mod Entries
-pub mod Holding
-pub mod Laws
 pub mod Redos
-pub mod Refusals
-pub mod Targets
-pub mod Walk

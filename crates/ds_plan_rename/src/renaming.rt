@@ -15,7 +15,7 @@ use crate::entries::entry_kept;
 use crate::redos::{redo_grown, redo_kept, redo_moved};
 use ds_base::{Geom, Key, Kind, Name, NodeKind, SlotNo};
 use ds_fd::Body;
-use ds_image::{Ask, Plan, Seen};
+use ds_image::{Ask, Seen};
 use ds_jrnl::Redo;
 use ds_layout::{Place, sector_of};
 use ds_plan_base::{
@@ -82,11 +82,9 @@ impl Rename {
         }
     }
 
-    fn asked(&self, seen: &Seen) -> Ask
+    /// What the call needs next by what it has seen, or how it ends.
+    pub fn ask(&self, seen: &Seen) -> Ask
         ensures answer { (p : Parts) → Reads self.now.geom (look_of seen.now) p → result ≡ answers_of self.now seen.now p }
-        ensures geom { IsGeom self.now.geom }
-        ensures name { IsName self.now.name }
-        ensures fresh { IsName self.now.fresh }
     {
         match self.change_known(seen) {
             Ok(Moving { redo, key }) => Ask::Change(redo, TreeReply::Moved { key }),
@@ -185,33 +183,4 @@ fn other_sub(geom: &Geom, from: &Found, number: u32) -> Result<u32, Stop>
         return Err(Stop::Odd(sector_of(geom, &Place::SubBlock(number))));
     }
     Ok(number)
-}
-
-impl Plan for Rename {
-    ghost use Rattle.std.specs.Prelude.{◌≡◌};
-    ghost use Rattle.ds_image.specs.Parts.{Parts};
-    ghost use Rattle.ds_image.specs.Readings.{Reads};
-    ghost use Rattle.ds_image.specs.SeenValues.{look_of};
-    ghost use Rattle.ds_plan_base.specs.Locks.{IsAllowed};
-    ghost use Rattle.ds_plan_rename.specs.Answers.{answers_of, call_of};
-    ghost use Rattle.ds_plan_rename.specs.Laws.{rename_keeps, rename_few};
-
-    ghost geom = { λ plan. plan.geom };
-
-    ghost call = { call_of };
-
-    ghost answers = { answers_of };
-
-    #[tactic(auto, using(crate::specs::Laws::allowed_as))]
-    fn ask(&self, seen: &Seen) -> Ask
-        ensures answer { (p : Parts) → Reads self.now.geom (look_of seen.now) p → result ≡ answers_of self.now seen.now p }
-        ensures locks { (p : Parts) → Reads self.now.geom (look_of seen.now) p
-            → IsAllowed self.now.geom self.now.slot (call_of self.now) p result }
-    {
-        self.asked(seen)
-    }
-
-    ghost keeps = { rename_keeps };
-
-    ghost few = { rename_few };
 }

@@ -1,13 +1,6 @@
-//! The planner of Resize: how a file gets another size, lock by lock and sector by sector, and what is written then.
+//! The planner of Resize.
 #![tactic(auto)]
 
-mod blocks;
-mod files;
-mod growing;
-mod pages;
-mod resized;
-mod shrinking;
 mod space;
-mod taking;
 
 pub use space::Space;

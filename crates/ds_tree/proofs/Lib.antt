@@ -14,4 +14,5 @@ mod RenameInsideKeeps
 mod RenameAcrossKeeps
 mod ResizeKeeps
 pub mod StepKeeps
+pub mod Accepted
 pub mod PlainPasses

@@ -1,6 +1,6 @@
 -- What each call on a file tree does: the first refusal whose condition holds, which changes nothing; else the reply and
 -- exactly the named change, with any free choice of object numbers, births and blocks.
-use Rattle.std.specs.Prelude.{◌≡◌, ℕ, ◌+◌, ◌-◌, ◌*◌, ◌<◌, ◌==◌, ◌&&◌, Bool, true, false, not, nat_eq, nat_le, nat_lt, if◌then◌else◌, List, [], ◌++◌, length, take, drop, map, filter, slice_get, All, Contains, Option, Some, None, is_none, MatchOption}
+use Rattle.std.specs.Prelude.{◌≡◌, ℕ, ◌+◌, ◌-◌, ◌*◌, ◌<◌, ◌==◌, ◌&&◌, Bool, true, false, not, nat_eq, nat_le, nat_lt, if◌then◌else◌, List, [], ◌++◌, length, take, drop, map, filter, slice_get, All, Contains, Option, Some, None, is_none, MatchOption, ⊤}
 use Rattle.std.specs.Ordering.{nat_cmp, is_lt}
 use Rattle.std.specs.Cmp.Lexicographic.{slice_cmp}
 use Rattle.std.specs.List.{IsDistinct}
@@ -228,6 +228,25 @@ Succeeds g t _ _ u = ⊥
 -- the call answers so at a tree, and leaves this one
 abbrev pub Does : Geom → FileTree → CallOf Key → TreeReply → FileTree → Type 0
 Does g t call reply u = MatchOption (refusal g t call) (Succeeds g t call reply u) (λ refused. (reply ≡ refused) × (u ≡ t))
+
+-- whether a reply refuses its call
+abbrev pub is_refusal : TreeReply → Bool
+is_refusal (replies.Made key) = false
+is_refusal (replies.Found key kind) = false
+is_refusal (replies.Page total names) = false
+is_refusal (replies.Info kind size) = false
+is_refusal (replies.Blocks list) = false
+is_refusal (replies.Sized blocks) = false
+is_refusal (replies.Gone key) = false
+is_refusal (replies.Moved key) = false
+is_refusal (replies.Opened blocks) = false
+is_refusal (replies.AtBlock block) = false
+is_refusal _ = true
+
+-- a new object is born once more than its number was before
+abbrev pub IsNextLife : FileTree → TreeReply → Type 0
+IsNextLife t (replies.Made key) = key.birth ≡ birth_at t key.object + 1
+IsNextLife t _ = ⊤
 
 -- whether a call's success changes the tree: a Resize to an equal size does not
 abbrev pub has_change : FileTree → CallOf Key → Bool

@@ -1,6 +1,6 @@
 -- The new object can be written.
 use Rattle.std.proofs.Common.{sym, subst}
-use Rattle.ds_plan_make.specs.NewBodies.{new-is}
+use Rattle.ds_plan_make.proofs.NewBodies.{new-is}
 use Rattle.ds_plan_make.specs.Objects.{CanBegin, IsNewObject}
 use Rattle.ds_plan_make.proofs.objects.object_known.Goals as goal
 

@@ -7,7 +7,7 @@ use Rattle.ds_image.specs.Readings.{Reads}
 use Rattle.ds_image.proofs.Readings.{parts_there}
 use Rattle.ds_plan_make.specs.Answers.{MakeValue, change_known}
 use Rattle.ds_plan_make.specs.declared.making.Making.{Making}
-use Rattle.ds_plan_make.specs.Known.{grown-is}
+use Rattle.ds_plan_make.proofs.Known.{grown-is}
 use Rattle.ds_plan_base.proofs.Known.{room-known, room-free, grow-known}
 use Rattle.ds_plan_make.proofs.making.Make.change_known.Goals as goal
 use Rattle.ds_plan_base.specs.declared.stops.Stop.{Stop}

@@ -6,7 +6,7 @@ use Rattle.ds_image.specs.SeenValues.{look_of}
 use Rattle.ds_plan_base.specs.Redos.{body_pair, sub_pair}
 use Rattle.ds_plan_base.specs.declared.stops.Stop.{Stop}
 use Rattle.ds_plan_remove.specs.Answers.{RemoveValue, change_known}
-use Rattle.ds_plan_remove.specs.Removed.{removed-is, written-is}
+use Rattle.ds_plan_remove.proofs.Removed.{removed-is, written-is}
 use Rattle.ds_plan_remove.specs.declared.removing.Removing.{Removing}
 use Rattle.ds_plan_remove.proofs.removing.Remove.change_known.Goals as goal
 

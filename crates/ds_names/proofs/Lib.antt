@@ -1,3 +1,0 @@
-mod NamesInOrder
-mod PageSteps
-mod PagesMade

@@ -1,0 +1,9 @@
+pub mod Answers
+pub mod Blocks
+pub mod Files
+pub mod Growing
+pub mod Ordered
+pub mod Redos
+pub mod Shrinking
+pub mod Taking
+pub mod Writable

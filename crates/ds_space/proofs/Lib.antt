@@ -1,4 +1,0 @@
-pub mod FileFacts
-pub mod KnownSizes
-pub mod Padding
-pub mod PageLists

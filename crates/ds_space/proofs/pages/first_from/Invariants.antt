@@ -1,7 +1,0 @@
--- The sectors so far are below this one.
-use Rattle.std.proofs.Common.{◌≡◌, drop}
-use Rattle.ds_space.specs.Ordered.{place_from}
-use Rattle.ds_space.proofs.pages.first_from.Given as goal
-
-abbrev pub invariant-loop-place : goal.invariant-loop-place
-invariant-loop-place l = place_from 0 l.at l.pairs ≡ place_from l.place l.at (drop l.place l.pairs)
