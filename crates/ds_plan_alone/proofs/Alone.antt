@@ -161,7 +161,7 @@ module _ (g : Geom) (call : CallOf Key) (answers : Answers) (image : List Sector
         }
 
   -- a body that was seen is that of the image, and so of the tree
-  last-birth : (seen : SeenValue) (p : Parts) (object : ℕ) (t : FileTree) → Reads g (look_of seen) p → Agrees seen image → IsWorn p object
+  last-birth : (seen : SeenValue) (p : Parts) (object : ℕ) (t : FileTree) → Reads g (look_of seen) p → Agrees seen image → IsWorn g call seen p object
       → StandsFor g image t → birth_at t object ≡ 2 ^ 62
   last-birth seen p object t reads agrees worn stands =
       let inside : object < items_of g Fd = omega (arith, part_within p.bodies object worn.body worn.there, reads.bodies.len) in

@@ -1,5 +1,5 @@
 -- An image in which a file was given another size stands for the tree that the call makes.
-use Rattle.std.proofs.Common.{◌≡◌, ℕ, zero, suc, ◌+◌, ◌-◌, ◌≤◌, inl, inr, List, [], ◌∷◌, ◌++◌, length, map, take, slice_get, slice_set, Some, refl, sym, ap, subst, ◌∙◌, length-append, arith}
+use Rattle.std.proofs.Common.{◌≡◌, ◌≢◌, ne_eqb, not, true, ℕ, zero, suc, ◌+◌, ◌-◌, ◌≤◌, inl, inr, List, [], ◌∷◌, ◌++◌, length, map, take, slice_get, slice_set, Some, refl, sym, ap, subst, ◌∙◌, length-append, arith}
 use Rattle.std.proofs.lemmas.List.{length-take}
 use Rattle.ds_base.specs.Geometry.{IsGeom}
 use Rattle.ds_base.specs.declared.geometry.Geom.{Geom}
@@ -18,7 +18,11 @@ use Rattle.ds_image.proofs.LaidOver.{whole-laid_over}
 use Rattle.ds_image.proofs.Places.{at-append}
 use Rattle.ds_image.proofs.SoundParts.{each_kind}
 use Rattle.ds_ptr.specs.declared.ptr_block.PtrBlock.{PtrBlock}
-use Rattle.ds_tree.specs.Nodes.{FileTree}
+use Rattle.ds_image.specs.Objects.{tree_of}
+use Rattle.ds_tree.specs.Nodes.{FileTree, Object, node_at}
+use Rattle.ds_tree.specs.Nodes as nodes
+use Rattle.ds_tree.specs.Steps.{has_change}
+use Rattle.ds_plan_laws_size.proofs.ResizedTrees.{file-object}
 use Rattle.ds_tree.specs.WellFormed.{IsTree}
 use Rattle.ds_tree.specs.declared.calls.CallOf.TheVariants.{Resize}
 use Rattle.ds_tree.specs.declared.calls.TreeReply.TheVariants.{Sized}
@@ -174,3 +178,12 @@ module _ (g : Geom) (is : IsGeom g) (image : List Sector) (t : FileTree) (stands
       (leaves-resized g image (laid_over image pairs) p parts-after stands.reads resized-reads stands.sound key b b' size added pointers resizes-parts life near
       (subst (IsTree g) stands.tree stands.is_tree)
       (whole-laid_over g image pairs stands.whole))
+
+  -- another size changes the tree
+  pub resized-changes : size ≢ b.count → has_change t (Resize key size) ≡ true
+  resized-changes differs =
+      let blocks : length (nodes.blocks_of (node_at (tree_of p) key.object)) ≡ b.count =
+      ap (λ (x : Object). length (nodes.blocks_of x.node)) (file-object p key.object b ready.body.there ready.body.file)
+      ∙ size-is g look p key.object b stands.reads stands.sound ready.body.there ready.body.file in
+      subst (λ u. has_change u (Resize key size) ≡ true) (sym stands.tree)
+      (ap not (ne_eqb (length (nodes.blocks_of (node_at (tree_of p) key.object))) size (λ same. differs (sym same ∙ blocks))))

@@ -1,5 +1,5 @@
 -- What is written to make an object is right.
-use Rattle.std.proofs.Common.{◌≡◌, ℕ, ◌*◌, ◌<◌, ◌≤◌, Bool, true, false, not, nat_lt, if◌then◌else◌, List, [], ◌∷◌, length, None, Some, inl, inr, refl, sym, ap, subst, ◌∙◌, arith, slice_get}
+use Rattle.std.proofs.Common.{◌≡◌, ℕ, ◌+◌, ◌*◌, ◌<◌, ◌≤◌, Bool, true, false, not, nat_lt, if◌then◌else◌, List, [], ◌∷◌, length, None, Some, inl, inr, refl, sym, ap, subst, ◌∙◌, arith, slice_get}
 use Rattle.std.specs.FinMap as maps
 use Rattle.std.proofs.lemmas.Bool.{cases_Bool, cases_lt}
 use Rattle.std.proofs.lemmas.Bool.Decides.{nat_tests}
@@ -48,15 +48,21 @@ use Rattle.ds_plan_make.specs.declared.objects.NewObject.{NewObject}
 use Rattle.ds_plan_base.specs.declared.rooms.FreeRoom.{FreeRoom}
 use Rattle.ds_plan_base.specs.Objects.{CanGrow}
 use Rattle.ds_plan_base.specs.Redos.{body_grown, block_filled, block_alone, body_pair, map_pair, sub_pair}
-use Rattle.ds_plan_base.proofs.Dirs.{body_in, dir_in}
+use Rattle.ds_plan_base.proofs.Dirs.{body_in, dir_in, object_in}
 use Rattle.ds_plan_base.proofs.Known.{HasRoom}
 use Rattle.ds_plan_base.proofs.Limits.{map_alike}
 use Rattle.ds_plan_base.proofs.NewBodies.{grown-is_body, item-within}
 use Rattle.ds_plan_base.proofs.Wholes.{subs-same, rooms-same, entries-absent}
 use Rattle.ds_plan_base.proofs.Alike.{some-there}
-use Rattle.ds_tree.specs.Nodes.{FileTree}
+use Rattle.ds_tree.specs.Nodes.{FileTree, Object, birth_at}
+use Rattle.ds_tree.specs.Steps.{IsNextLife, has_change}
 use Rattle.ds_tree.specs.declared.calls.CallOf.{CallOf}
 use Rattle.ds_tree.specs.declared.calls.TreeReply.TheVariants.{Made}
+
+-- a call that makes an object changes the tree
+made-changes : (t : FileTree) (kind : NodeKind) (dir : Key) (name : List ℕ) → has_change t (make_call kind dir name) ≡ true
+made-changes t kinds.Dir dir name = refl
+made-changes t kinds.File dir name = refl
 
 module _ (g : Geom) (is_geom : IsGeom g) (slot : ℕ) (key : Key) (name : List ℕ) (named : IsName name) (kind : NodeKind) (seen : SeenValue) (p : Parts) (reads : Reads g (look_of seen) p)
     (dir : Body) (whole : HasWhole g seen p key name dir) (item : FreeItem) (has : HasItem g seen p Fd item) (before : Body) (new : HasNew g seen p (number_of g Fd item) before) where
@@ -101,6 +107,14 @@ module _ (g : Geom) (is_geom : IsGeom g) (slot : ℕ) (key : Key) (name : List �
     same_kind = refl;
     same_cluster = refl;
   }
+
+  -- the object's number has the birth of the body that was read
+  next-life : (image : List Sector) (t : FileTree) → StandsFor g image t → Agrees seen image → IsNextLife t (Made made.entry.key)
+  next-life image t stands agrees =
+      let number = number_of g Fd item in
+      let there = body_in g seen p number image t stands (item-within g Fd item has.is_free) reads agrees new.read ∙ new.there in
+      let born = ap (λ (o : Object). o.birth) (object_in g image t number (Some before) stands there) in
+      ap (λ birth. birth + 1) (sym (subst (λ n. birth_at t n ≡ before.birth) o-is born))
 
   -- the object can be made in each image that agrees
   ready : (image : List Sector) (t : FileTree) (stands : StandsFor g image t) → Agrees seen image
@@ -160,7 +174,7 @@ module _ (g : Geom) (is_geom : IsGeom g) (slot : ℕ) (key : Key) (name : List �
           right = λ image t stands agrees.
               let make = ready image t stands agrees in
               let fill = fills image t stands agrees in
-              right-change g call seen image t (pairs_filled g made free) (Made made.entry.key)
+              right-change g call seen image t (pairs_filled g made free) (Made made.entry.key) refl (made-changes t kind key name) (next-life image t stands agrees)
               (filled-leaves g is_geom image t stands key dir o made.entry made.body c (map_taken item) n block make fill map_sector new_sector block_sector refl refl refl)
               (filled-guarded_before g is_geom image t stands key dir o made.entry made.body c (map_taken item) n block make fill map_sector new_sector block_sector refl refl refl
               (HoldsLock seen) has.has.held o-held whole.has.held)
@@ -233,7 +247,7 @@ module _ (g : Geom) (is_geom : IsGeom g) (slot : ℕ) (key : Key) (name : List �
       right = λ image t stands agrees.
           let make = ready image t stands agrees in
           let grow = adds image t stands agrees in
-          right-change g call seen image t (pairs_by swapped) (Made made.entry.key)
+          right-change g call seen image t (pairs_by swapped) (Made made.entry.key) refl (made-changes t kind key name) (next-life image t stands agrees)
           (grown-leaves g is_geom image t stands key dir o made.entry made.body item.cluster (map_taken item) n grown sub.cluster (map_taken sub) (block_alone made.entry) make grow
           map_sector sub_map_sector dir_sector new_sector block_sector refl refl refl refl refl swapped)
           (grown-guarded_before g is_geom image t stands key dir o made.entry made.body item.cluster (map_taken item) n grown sub.cluster (map_taken sub) (block_alone made.entry) make grow

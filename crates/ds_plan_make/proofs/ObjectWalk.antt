@@ -98,10 +98,18 @@ module _ (g : Geom) (slot : ℕ) (call : CallOf Key) (dir : ℕ) (seen : SeenVal
         false≢true (sym (sym (ap is_used (same ∙ is.there)) ∙ unused-in image t stands agrees) ∙ used);
   }
 
-  worn_good : (b : Body) → part_at p.bodies o ≡ Some b → is_some b.kind ≡ false → nat_le (2 ^ 62) b.birth ≡ true → Good (asks.Worn o)
-  worn_good b is unused last =
+  worn_good : has_lock seen o ≡ true → (b : Body) → part_at p.bodies o ≡ Some b → is_some b.kind ≡ false → nat_le (2 ^ 62) b.birth ≡ true → Good (asks.Worn o)
+  worn_good held b is unused last =
       let most = (body_is g (look_of seen) p o b reads is).ranges.birth_to in
-      (makes, record { body = b; there = is; unused = none-there b.kind unused; last = grind (arith, nat_tests, last, most) })
+      record {
+        makes = makes;
+        clear = clear;
+        held = held;
+        body = b;
+        there = is;
+        unused = none-there b.kind unused;
+        last = grind (arith, nat_tests, last, most);
+      }
 
   -- the body is known, or what is asked for is good
   pub unused_goes : Goes Good (unused_body g seen p o) (HasNew g seen p o)
@@ -115,7 +123,7 @@ module _ (g : Geom) (slot : ℕ) (call : CallOf Key) (dir : ℕ) (seen : SeenVal
       (used_good b is)
       (λ unused.
       goes-if Good (HasNew g seen p o) (nat_le (2 ^ 62) b.birth) (Err (stops.Worn o)) (Ok b)
-      (worn_good b is.there unused)
+      (worn_good held b is.there unused)
       (λ few. record {
         held = held;
         read = is.read;

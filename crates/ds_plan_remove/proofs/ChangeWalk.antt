@@ -1,9 +1,10 @@
 -- What is written to take an object away is right.
-use Rattle.std.proofs.Common.{◌≡◌, ℕ, List, [], ◌∷◌, ◌++◌, Some, refl, sym, ap, subst, ◌∙◌, slice_get, append_assoc}
+use Rattle.std.proofs.Common.{◌≡◌, ℕ, true, List, [], ◌∷◌, ◌++◌, Some, refl, sym, ap, subst, ◌∙◌, slice_get, append_assoc}
 use Rattle.ds_base.specs.Geometry.{IsGeom}
 use Rattle.ds_base.specs.declared.geometry.Geom.{Geom}
 use Rattle.ds_base.specs.declared.names.Key.{Key}
 use Rattle.ds_base.specs.declared.names.NodeKind.{NodeKind}
+use Rattle.ds_base.specs.declared.names.NodeKind.TheVariants as kinds
 use Rattle.ds_base.specs.declared.sectors.Sector.{Sector}
 use Rattle.ds_bytes.specs.Fields.{zeros}
 use Rattle.ds_plan_laws_new.specs.Guarded.{HoldsLock}
@@ -41,6 +42,7 @@ use Rattle.ds_plan_remove.proofs.EntryWalk.{HasObject}
 use Rattle.ds_plan_remove.proofs.TargetsGone.{gone-targets}
 use Rattle.ds_plan_remove.proofs.Written.{IsGiven}
 use Rattle.ds_tree.specs.Nodes.{FileTree}
+use Rattle.ds_tree.specs.Steps.{has_change}
 use Rattle.ds_tree.specs.declared.calls.CallOf.{CallOf}
 use Rattle.ds_tree.specs.declared.calls.TreeReply.TheVariants as replies
 
@@ -52,6 +54,11 @@ entry-is : (e : Entry) (name : List ℕ) (key : Key) (kind : NodeKind) → e.nam
 entry-is e name key kind a b c =
     ap (λ (n : List ℕ). record { name = n; key = e.key; kind = e.kind }) a
     ∙ ap (λ (k : Key). record { name = name; key = k; kind = e.kind }) b ∙ ap (λ (k : NodeKind). record { name = name; key = key; kind = k }) c
+
+-- a call that takes an object away changes the tree
+gone-changes : (t : FileTree) (kind : NodeKind) (dir : Key) (name : List ℕ) → has_change t (go_call kind dir name) ≡ true
+gone-changes t kinds.Dir dir name = refl
+gone-changes t kinds.File dir name = refl
 
 pub ended-body : (b : Body) → IsBody b → IsBody (ended b)
 unfolding zeros
@@ -123,7 +130,7 @@ module _ (g : Geom) (is_geom : IsGeom g) (key : Key) (name : List ℕ) (kind : N
         gone-targets g given.writes given.few given.inside given.rising o n obj.inside at.has.inside body_sector block_sector;
     right = λ image t stands agrees.
         let go = ready image t stands agrees in
-        right-change g call seen image t pairs (replies.Gone f.key)
+        right-change g call seen image t pairs (replies.Gone f.key) refl (gone-changes t kind key name) tt
         (gone-leaves g is_geom image t stands key dir e b (ended b) n block given.writes go body_sector block_sector refl refl)
         (gone-guarded_before g is_geom image t stands key dir e b (ended b) n block given.writes go body_sector block_sector refl refl (HoldsLock seen) given.held obj.held has.held)
         (gone-guarded_after g is_geom image t stands key dir e b (ended b) n block given.writes go body_sector block_sector refl refl (HoldsLock seen) given.held obj.held has.held);

@@ -94,7 +94,7 @@ remove_keeps plan is names seen p reads =
 pub remove_allowed : (plan : RemoveValue) → IsGeom plan.geom → HasNames (call_of plan) → AllAreAllowed plan.geom plan.slot (call_of plan) (answers_of plan)
 remove_allowed plan is names seen p reads =
     plan_allowed plan.geom plan.slot (call_of plan) (MayHold plan.geom plan.dir plan.name plan.kind) (MayRead plan.geom plan.dir plan.name plan.kind) seen p (answers_of plan seen p)
-    (asks_of plan is names seen p reads)
+    (asks_of plan is seen p reads)
 
 -- few locks are held, and few sectors read
 pub remove_few : (plan : RemoveValue) → IsGeom plan.geom → HasNames (call_of plan) → AllAreFew plan.geom (answers_of plan)

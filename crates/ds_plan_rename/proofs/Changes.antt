@@ -161,7 +161,7 @@ module _ (g : Geom) (is_geom : IsGeom g) (key : Key) (name : List ℕ) (to_key :
           targets = kept-targets g n room.has.inside;
           right = λ image t stands agrees.
               let rename = ready image t stands agrees in
-              right-change g (calls.Rename key old.name to_key fresh) seen image t (pairs_kept g from fresh) (Moved old.key)
+              right-change g (calls.Rename key old.name to_key fresh) seen image t (pairs_kept g from fresh) (Moved old.key) refl refl tt
               (renamed-leaves g is_geom image t stands key to_key dir old new n block rename sector refl)
               (renamed-guarded_before g is_geom image t stands key to_key dir old new n block rename sector refl (HoldsLock seen) has.held)
               (renamed-guarded_after g is_geom image t stands key to_key dir old new n block rename sector refl (HoldsLock seen) has.held);
@@ -238,7 +238,7 @@ module _ (g : Geom) (is_geom : IsGeom g) (key : Key) (name : List ℕ) (to_key :
         right = λ image t stands agrees.
             let leave = leaves image t stands agrees in
             let fill = fills image t stands agrees in
-            right-change g (calls.Rename key old.name to_key fresh) seen image t (crossed-pairs g swapped from.sub free.sub from_sector to_sector) (Moved old.key)
+            right-change g (calls.Rename key old.name to_key fresh) seen image t (crossed-pairs g swapped from.sub free.sub from_sector to_sector) (Moved old.key) refl refl tt
             (crossed-leaves g is_geom image t stands key to_key dir to old new from.sub emptied leave free.sub filled fill from_sector to_sector refl refl swapped)
             (crossed-guarded_before g is_geom image t stands key to_key dir to old new from.sub emptied leave free.sub filled fill from_sector to_sector refl refl
             (HoldsLock seen) has.held whole.has.held swapped)
@@ -325,7 +325,7 @@ module _ (g : Geom) (is_geom : IsGeom g) (key : Key) (name : List ℕ) (to_key :
         right = λ image t stands agrees.
             let leave = leaves image t stands agrees in
             let add = adds image t stands agrees in
-            right-change g (calls.Rename key old.name to_key fresh) seen image t (pairs_by swapped) (Moved old.key)
+            right-change g (calls.Rename key old.name to_key fresh) seen image t (pairs_by swapped) (Moved old.key) refl refl tt
             (crossed_grown-leaves g is_geom image t stands key to_key dir to old new from.sub emptied leave n grown sub.cluster (map_taken sub) alone add
             map_sector body_sector from_sector new_sector refl refl refl refl swapped)
             (crossed_grown-guarded_before g is_geom image t stands key to_key dir to old new from.sub emptied leave n grown sub.cluster (map_taken sub) alone add

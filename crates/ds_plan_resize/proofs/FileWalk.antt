@@ -1,5 +1,5 @@
 -- A planner of Resize asks for what it may before it knows the file, and refuses where the call does.
-use Rattle.std.proofs.Common.{◌≡◌, ℕ, ◌<◌, ◌≤◌, ◌==◌, ◌&&◌, Bool, true, false, nat_lt, if◌then◌else◌, inl, inr, List, Option, None, Some, refl, sym, ap, subst, ◌∙◌, is_some, arith}
+use Rattle.std.proofs.Common.{◌≡◌, ◌≢◌, eq-eqb, ℕ, ◌<◌, ◌≤◌, ◌==◌, ◌&&◌, Bool, true, false, nat_lt, if◌then◌else◌, inl, inr, List, Option, None, Some, refl, sym, ap, subst, ◌∙◌, is_some, arith}
 use Rattle.std.specs.Prelude.{Result, Ok, Err, IsSome}
 use Rattle.std.proofs.lemmas.Bool.{false≢true, cases_Bool}
 use Rattle.std.proofs.lemmas.Bool.Decides.{nat_tests}
@@ -48,6 +48,7 @@ pub record HasFile (g : Geom) (seen : SeenValue) (p : Parts) (key : Key) (size :
   pub sees : SeesBody p key kinds.File b
   pub most : size ≤ 12288
   pub near : difference size b.count ≤ 1024
+  pub differs : size ≢ b.count
 
 both-false : (a b : Bool) → (a && b) ≡ false → a ≡ true → b ≡ false
 both-false true b e t = e
@@ -140,6 +141,7 @@ module _ (g : Geom) (slot : ℕ) (key : Key) (size : ℕ) (seen : SeenValue) (p 
               sees = record { there = has.there; life = life; is_kind = file };
               most = grind (arith, nat_tests, small);
               near = grind (arith, nat_tests, near);
+              differs = λ same. false≢true (sym other ∙ eq-eqb size b.count same);
             })))
 
     rest_goes : Goes Good (after (body_alive key b) (λ c. after (body_of_file c) (body_to_size size))) (HasFile g seen p key size)

@@ -327,7 +327,7 @@ module _ (g : Geom) (is_geom : IsGeom g) (slot : ℕ) (key : Key) (size : ℕ) (
           (sym maps-are)
           (in-order-are g key.object r.body object-is has.inside (put_all_by [] pb) (put_all_by [] fb) (λ i m at. (sorted-within i m at).0) (λ i m at. (sorted-within' i m at).0)
           (pages_of list (pointers_from r.body first))))
-          has.held (λ i m at. (sorted-within i m at).1) (λ i m at. (sorted-within' i m at).1) has.sees.life has.near
+          has.held (λ i m at. (sorted-within i m at).1) (λ i m at. (sorted-within' i m at).1) has.sees.life has.near has.differs
 
     -- what is written is right
     pub grown-good : IsPlanChange g call seen (redo_of g r).pairs.items (Sized size)

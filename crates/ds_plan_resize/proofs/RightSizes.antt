@@ -1,5 +1,5 @@
 -- Pairs that are put in their order write what a file needs for its new size.
-use Rattle.std.proofs.Common.{◌≡◌, ℕ, zero, suc, ◌<◌, ◌≤◌, inl, inr, true, List, [], ◌∷◌, ◌++◌, map, Some, refl, sym, ap, subst, ◌∙◌, slice_get, append_assoc, arith}
+use Rattle.std.proofs.Common.{◌≡◌, ◌≢◌, ℕ, zero, suc, ◌<◌, ◌≤◌, inl, inr, true, List, [], ◌∷◌, ◌++◌, map, Some, refl, sym, ap, subst, ◌∙◌, slice_get, append_assoc, arith}
 use Rattle.std.proofs.lemmas.List.{append-nil}
 use Rattle.ds_base.specs.Geometry.{IsGeom, clusters_of, items_of}
 use Rattle.ds_base.specs.declared.geometry.Geom.{Geom}
@@ -27,7 +27,7 @@ use Rattle.ds_plan_laws_size.specs.Ready.{ReadyToResize, resize_parts}
 use Rattle.ds_plan_laws_size.specs.Written.{Written, MapPart, BodyPart, PtrPart, IsPairOf, ArePairsOf}
 use Rattle.ds_plan_laws_size.proofs.GuardedResizes.{resized-guarded_before, resized-guarded_after}
 use Rattle.ds_plan_laws_size.proofs.ResizeTargets.{rising-once}
-use Rattle.ds_plan_laws_size.proofs.StandsResized.{resized-leaves}
+use Rattle.ds_plan_laws_size.proofs.StandsResized.{resized-changes, resized-leaves}
 use Rattle.ds_plan_resize.specs.Files.{difference}
 use Rattle.ds_plan_resize.proofs.InOrder.{AreBelow, put_all_by, put_all-map, put_all-behind, sorted-rises, sorted-from, sorted-there}
 use Rattle.ds_plan_resize.specs.Ordered.{put_all_in}
@@ -153,10 +153,11 @@ pub size-right : (g : Geom) → IsGeom g → (seen : SeenValue) (image : List Se
     → has_lock seen key.object ≡ true
     → ((i : ℕ) (m : ℕ × Bitmap) → slice_get pb i ≡ Some m → has_lock seen (cluster_lock Pb m.0) ≡ true)
     → ((i : ℕ) (m : ℕ × Bitmap) → slice_get fb i ≡ Some m → has_lock seen (cluster_lock Fb m.0) ≡ true)
-    → b.birth ≡ key.birth → difference size b.count ≤ 1024
+    → b.birth ≡ key.birth → difference size b.count ≤ 1024 → size ≢ b.count
     → IsRightChange g (Resize key size) seen image t pairs (Sized size)
-size-right g is seen image t stands key b b' size added pointers first pb fb ptrs ready pairs are held held_pb held_fb life near =
-    right-change g (Resize key size) seen image t pairs (Sized size)
+size-right g is seen image t stands key b b' size added pointers first pb fb ptrs ready pairs are held held_pb held_fb life near differs =
+    right-change g (Resize key size) seen image t pairs (Sized size) refl
+    (resized-changes g is image t stands key b b' size added pointers first pb fb ptrs ready pairs are differs) tt
     (resized-leaves g is image t stands key b b' size added pointers first pb fb ptrs ready pairs are life near)
     (resized-guarded_before g is image t stands key b b' size added pointers first pb fb ptrs ready pairs are (HoldsLock seen) held held_pb held_fb)
     (resized-guarded_after g is image t stands key b b' size added pointers first pb fb ptrs ready pairs are (HoldsLock seen) held held_pb held_fb)

@@ -390,7 +390,7 @@ module _ (g : Geom) (is_geom : IsGeom g) (slot : ℕ) (key : Key) (size : ℕ) (
         right =
             size-right g is_geom seen image t stands key b r.body size [] [] first pb fb (put_all_by [] (pages_of blocks (pointers_from r.body first))) ready (redo_of g r).pairs.items
             (in-order-are g key.object r.body object-is has.inside pb fb pb-within fb-within (pages_of blocks (pointers_from r.body first)))
-            has.held pb-held fb-held has.sees.life has.near
+            has.held pb-held fb-held has.sees.life has.near has.differs
 
       -- what is written is right
       pub shrunk-good : IsPlanChange g call seen (redo_of g r).pairs.items (Sized size)
