@@ -1,18 +1,11 @@
 -- The laws of a store that has an image, from what the steps and their runs keep.
-use Rattle.std.proofs.Common.{◌≡◌, ◌≢◌, ℕ, ◌<◌, List, length, slice_get, Option, Some, refl, ap, ◌∙◌, sym, subst, arith}
-use Rattle.ds_base.specs.Geometry.{IsGeom}
-use Rattle.ds_base.specs.declared.geometry.Geom.{Geom}
+use Rattle.std.proofs.Common.{List, refl, sym, subst, arith}
 use Rattle.ds_base.specs.declared.sectors.Sector.{Sector}
-use Rattle.ds_tree.specs.Nodes.{FileTree}
-use Rattle.ds_image.specs.Guards.{IsGuard}
-use Rattle.ds_image.specs.Logical.{IsLogical}
-use Rattle.ds_image.specs.SeenValues.{SeenValue, HoldsLock, look_of}
+use Rattle.ds_image.specs.SeenValues.{HoldsLock, look_of}
 use Rattle.ds_image.specs.Sound.{StandsFor}
 use Rattle.ds_image.proofs.OneLogical.{logical_once}
-use Rattle.ds_image_laws.specs.Calls.{CallKnows}
-use Rattle.ds_image_laws.specs.ImageSteps.{Commit, ImageStep, IsFree, Elsewhere, Placed, Renewed, Retired, Committed}
-use Rattle.ds_image_laws.specs.Kept.{Knows}
-use Rattle.ds_image_laws.specs.Laws.{HasImage, StandsLogically, AlikeByMetadata, PendingApart, FreeStands, StepKeepsImage, GuardsStay, SeenStays, ObjectsStay, FormattedHasImage, LogicalStands, RunDoesAll, PlannersAreRight}
+use Rattle.ds_image_laws.specs.ImageSteps.{Elsewhere, Placed, Renewed, Retired, Committed}
+use Rattle.ds_image_laws.specs.Laws.{AlikeByMetadata, PendingApart, FreeStands, StepKeepsImage, GuardsStay, SeenStays, ObjectsStay, FormattedHasImage, LogicalStands, RunDoesAll, PlannersAreRight}
 use Rattle.ds_image_laws.specs.Owners.{Names}
 use Rattle.ds_image_laws.proofs.Calls.{logical-there, call-done}
 use Rattle.ds_image_laws.proofs.HostWrites.{commit-step, fresh-holds}
