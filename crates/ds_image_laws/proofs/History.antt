@@ -11,11 +11,11 @@ use Rattle.ds_image.specs.Logical.{laid_over, IsLogical}
 use Rattle.ds_image.specs.Looks.{Look}
 use Rattle.ds_image.specs.Pending.{Pair}
 use Rattle.ds_image_laws.specs.Kept.{is_target}
-use Rattle.ds_image_laws.specs.ImageSteps.{Commit, ImageStep}
+use Rattle.ds_image_laws.specs.ImageSteps.{Commit, IsFree, ImageStep}
 use Rattle.ds_image_laws.specs.Owners.{Names}
 use Rattle.ds_image_laws.specs.Shown.{MakesImage, HoldsImage}
 use Rattle.ds_image_laws.proofs.Calls.{guard-shown, unowned-names}
-use Rattle.ds_image_laws.proofs.ImageSteps.{IsFree, step-knows, step-object}
+use Rattle.ds_image_laws.proofs.ImageSteps.{step-knows, step-object}
 use Rattle.ds_image_laws.proofs.OneGuard.{guard-once}
 use Rattle.ds_image_laws.proofs.PickedPairs.{target-holds}
 use Rattle.ds_image_laws.proofs.Apart.{IsUnownedIn, NotedHolds}

@@ -139,6 +139,5 @@ pub fresh-holds : (g : Geom) (volume : List ℕ) (sectors : List Sector) (is : I
     → HoldsImage g sectors (Names g sectors) (front_of g sectors) (fresh_tree g)
 fresh-holds g volume sectors is formatted =
     let logical = front_is_logical g volume sectors is formatted in
-    let few : g.slots ≤ 16 = (bounds g is).slots in
     holds-start g sectors (front_of g sectors) (Names g sectors) (fresh_tree g) logical (fresh_stands g volume sectors is formatted (front_of g sectors) logical)
     (λ n within. record { slot = fresh_slot; decoded = slot_spelled g volume sectors is formatted n within; idle = refl })

@@ -9,7 +9,7 @@ use Rattle.ds_tree.specs.Nodes.{FileTree, object_at}
 use Rattle.ds_image.specs.SeenValues.{HoldsLock, SeenValue, look_of}
 use Rattle.ds_image.specs.Looks.{Look}
 use Rattle.ds_image_laws.specs.Calls.{CallKnows}
-use Rattle.ds_image_laws.specs.ImageSteps.{Commit, ImageStep, Elsewhere, Placed, Renewed, Retired, Committed, with_commit, ImageRun, Begun, Went, DoAll, DoNone, DoOne}
+use Rattle.ds_image_laws.specs.ImageSteps.{Commit, IsFree, ImageStep, Elsewhere, Placed, Renewed, Retired, Committed, with_commit, ImageRun, Begun, Went, DoAll, DoNone, DoOne}
 use Rattle.ds_image_laws.specs.Kept.{Knows}
 use Rattle.ds_image_laws.specs.Owners.{Names}
 use Rattle.ds_image_laws.specs.Shown.{HoldsImage}
@@ -43,11 +43,6 @@ step-holds g is sectors image t _ _ _ _ whole holds (Retired slot s old new pair
 step-holds g is sectors image t _ _ _ _ whole holds (Committed slot s old new call pairs reply written idle generation journal commits) =
     step-committed g is sectors image t whole holds slot written.within s old new written.was written.now pairs commits.u idle generation journal commits.lays
 
--- who commits has no such lock object
-abbrev pub IsFree : Geom → List Sector → Option Commit → ℕ → Type 0
-IsFree g sectors None object = Unit {0}
-IsFree g sectors (Some commit) object = ¬ Names g sectors commit.slot object
-
 -- what is known under lock objects that aren't the committer's
 pub step-knows : (g : Geom) (is : IsGeom g) (sectors image : List Sector) (t : FileTree) (commit : Option Commit) (sectors' image' : List Sector) (u : FileTree)
     (Held : ℕ → Type 0) (look : Look) → HoldsImage g sectors (Names g sectors) image t → ImageStep g sectors image t commit sectors' image' u
@@ -71,6 +66,12 @@ step-object g is sectors image t _ _ _ _ object holds (Committed slot s old new 
     object-kept g image _ t commits.u (Names g sectors slot) object holds.stands commits.lays.stands
     (laid-outside g (Names g sectors slot) image pairs is commits.lays.before) free
 
+-- a lock object of another slot is not one of who commits
+pub free-of_others : (g : Geom) (sectors : List Sector) (c : Option Commit) (number : ℕ) → ((d : Commit) → c ≡ Some d → d.slot ≢ number)
+    → (object : ℕ) → Names g sectors number object → IsFree g sectors c object
+free-of_others g sectors None number apart object names = tt
+free-of_others g sectors (Some d) number apart object names = λ theirs. apart d refl (owners-apart g sectors d.slot number object theirs names)
+
 -- a call of a host whose slot doesn't commit, and whose locks name its slot after the event
 pub step-call : (g : Geom) (is : IsGeom g) (sectors image : List Sector) (t : FileTree) (commit : Option Commit) (sectors' image' : List Sector) (u : FileTree)
     (number : ℕ) (seen : SeenValue) → HoldsImage g sectors (Names g sectors) image t → ImageStep g sectors image t commit sectors' image' u
@@ -79,12 +80,8 @@ pub step-call : (g : Geom) (is : IsGeom g) (sectors image : List Sector) (t : Fi
 step-call g is sectors image t commit sectors' image' u number seen holds step other locks call = record {
   locks = locks;
   knows = step-knows g is sectors image t commit sectors' image' u (HoldsLock seen) (look_of seen) holds step
-      (λ object held. free commit other object (call.locks object held)) call.knows;
+      (λ object held. free-of_others g sectors commit number other object (call.locks object held)) call.knows;
 }
-  where
-    free : (c : Option Commit) → ((d : Commit) → c ≡ Some d → d.slot ≢ number) → (object : ℕ) → Names g sectors number object → IsFree g sectors c object
-    free None apart object names = tt
-    free (Some d) apart object names = λ theirs. apart d refl (owners-apart g sectors d.slot number object theirs names)
 
 -- Runs
 

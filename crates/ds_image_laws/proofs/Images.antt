@@ -16,7 +16,7 @@ use Rattle.ds_image.proofs.OneLogical.{pending_once}
 use Rattle.ds_image_laws.specs.Kept.{Knows, is_target}
 use Rattle.ds_image_laws.specs.Shown.{SameMetadata, Shows, AreInPlace, MakesImage, HoldsImage}
 use Rattle.ds_image_laws.proofs.Known.{laid-outside, guarded-kept, knows-kept}
-use Rattle.ds_image_laws.proofs.OneGuard.{guard-once}
+use Rattle.ds_image_laws.proofs.OneGuard.{guard-once, guard-of_metadata}
 use Rattle.ds_image_laws.proofs.PickedPairs.{target-holds, targets-each}
 use Rattle.ds_image_laws.proofs.ShownImages.{shows-kept, shows-placed, shows-committed, shows-retired, shown-free}
 use Rattle.ds_image_laws.proofs.Apart.{AreApart, AreOwnersApart}
@@ -47,7 +47,7 @@ module _ (g : Geom) (is : IsGeom g) (sectors image : List Sector) (Names : ℕ �
   pub held-stands : (slot at : ℕ) (pairs : List Pair) → blocks_at g ≤ length sectors → ArePending g sectors slot pairs → is_target pairs at ≡ false
       → GuardedBy g (slice_get image) (Names slot) at → slice_get image at ≡ slice_get sectors at
   held-stands slot at pairs whole are clear guard =
-      shown-free g is sectors image at guard.object whole guard.guards holds.shows
+      shown-free g sectors image at whole (guard-of_metadata g (slice_get image) at guard.object guard.guards) holds.shows
       (λ n theirs within pending. elim (cases_Bool (is_target theirs at)) [
         | inl found ↦
             let one = target-holds (GuardedBy g (slice_get image) (Names n)) theirs at (holds.guarded n theirs within pending) found in
@@ -62,7 +62,7 @@ module _ (g : Geom) (is : IsGeom g) (sectors image : List Sector) (Names : ℕ �
   pub unowned-stands : (at object : ℕ) → blocks_at g ≤ length sectors → ((n : ℕ) → ¬ Names n object) → IsGuard g (slice_get image) at object
       → slice_get image at ≡ slice_get sectors at
   unowned-stands at object whole unowned guard =
-      shown-free g is sectors image at object whole guard holds.shows
+      shown-free g sectors image at whole (guard-of_metadata g (slice_get image) at object guard) holds.shows
       (λ n theirs within pending. elim (cases_Bool (is_target theirs at)) [
         | inl found ↦
             let one = target-holds (GuardedBy g (slice_get image) (Names n)) theirs at (holds.guarded n theirs within pending) found in

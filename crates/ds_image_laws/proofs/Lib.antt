@@ -9,6 +9,7 @@ pub mod KeptGuards
 pub mod KeptObjects
 pub mod KeptPending
 pub mod Known
+pub mod LaidPairs
 pub mod OneGuard
 pub mod Owners
 pub mod PickedPairs
@@ -16,3 +17,4 @@ pub mod SameImages
 pub mod ShownImages
 pub mod StepKeeps
 pub mod Steps
+pub mod StoreLaws

@@ -1,5 +1,5 @@
 -- Images with the same metadata stand for the same tree, and have the same guards.
-use Rattle.std.proofs.Common.{◌≡◌, ℕ, ◌<◌, ◌≤◌, List, length, Option, slice_get, refl, sym, ap, ◌∙◌}
+use Rattle.std.proofs.Common.{◌≡◌, ℕ, ◌≤◌, List, length, slice_get, refl, sym, ap, ◌∙◌}
 use Rattle.ds_base.specs.Geometry.{clusters_of, items_of}
 use Rattle.ds_base.specs.declared.geometry.Geom.{Geom}
 use Rattle.ds_base.specs.declared.geometry.Kind.TheVariants.{Fd, Sb, Pb}
@@ -9,8 +9,8 @@ use Rattle.ds_layout.specs.Places.{blocks_at, place_sector}
 use Rattle.ds_layout.specs.declared.places.Place.TheVariants as places
 use Rattle.ds_image.specs.Guards.{IsGuard}
 use Rattle.ds_image.specs.Logical.{IsLogical}
-use Rattle.ds_image.specs.Parts.{Parts, part_at, maps_of}
-use Rattle.ds_image.specs.Readings.{SpellsBody, SpellsBits, SpellsSub, SpellsPtr, IsReading, Reads}
+use Rattle.ds_image.specs.Parts.{Parts, maps_of}
+use Rattle.ds_image.specs.Readings.{SpellsBody, SpellsBits, SpellsSub, SpellsPtr, Reads}
 use Rattle.ds_image.specs.Sound.{StandsFor}
 use Rattle.ds_image.proofs.OneLogical.{logical_once}
 use Rattle.ds_layout.proofs.MetadataPlaces.{body-metadata, map-metadata, sub-metadata, ptr-metadata}

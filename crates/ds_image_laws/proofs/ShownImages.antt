@@ -5,8 +5,6 @@ use Rattle.std.proofs.lemmas.List.{get_or_past}
 use Rattle.ds_base.specs.declared.geometry.Geom.{Geom}
 use Rattle.ds_base.specs.declared.sectors.Sector.{Sector}
 use Rattle.ds_layout.specs.Places.{blocks_at}
-use Rattle.ds_base.specs.Geometry.{IsGeom}
-use Rattle.ds_image.specs.Guards.{IsGuard}
 use Rattle.ds_image.specs.Logical.{laid_over, AreAllPending}
 use Rattle.ds_layout.specs.Metadata.{IsMetadata, front_of}
 use Rattle.ds_image.specs.Pending.{Pair, ArePending}
@@ -15,7 +13,6 @@ use Rattle.ds_image.proofs.LaidOver.{picked, laid_get, written_in_place}
 use Rattle.ds_image.proofs.OneLogical.{pending_once}
 use Rattle.ds_image_laws.specs.Kept.{is_target}
 use Rattle.ds_image_laws.specs.Shown.{SameMetadata, Shows, AreInPlace}
-use Rattle.ds_image_laws.proofs.OneGuard.{guard-of_metadata}
 use Rattle.ds_image_laws.proofs.PickedPairs.{all_of, picked-none, picked-in_place, picked-by_one, picked-put, targets-none, target-among, slice_get-take, take-set}
 use Rattle.ds_image_laws.proofs.Apart.{AreApart}
 
@@ -35,12 +32,12 @@ shown-at g sectors image at shows whole is =
     shows.same at is ∙ ap (λ (l : List Sector). slice_get l at) shows.is_logical.laid ∙ laid-at g sectors all at whole is
 
 -- a sector that no slot has a pair for stands in the store
-pub shown-free : (g : Geom) (is : IsGeom g) (sectors image : List Sector) (at object : ℕ) → blocks_at g ≤ length sectors → IsGuard g (slice_get image) at object
+pub shown-free : (g : Geom) (sectors image : List Sector) (at : ℕ) → blocks_at g ≤ length sectors → IsMetadata g at
     → Shows g sectors image → ((n : ℕ) (pairs : List Pair) → n < g.slots → ArePending g sectors n pairs → is_target pairs at ≡ false)
     → slice_get image at ≡ slice_get sectors at
-shown-free g is sectors image at object whole guard shows free =
+shown-free g sectors image at whole metadata shows free =
     let lists : List (List Pair) = shows.is_logical.pairs in
-    shown-at g sectors image at shows whole (guard-of_metadata g (slice_get image) at object guard)
+    shown-at g sectors image at shows whole metadata
     ∙ picked-none (all_of lists) at (slice_get sectors at)
     (targets-none lists at (λ n. elim (cases_lt n (length lists)) [
       | inl below ↦

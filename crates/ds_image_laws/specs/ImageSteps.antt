@@ -26,6 +26,11 @@ pub record Commit : Type 0 where
   pub call : CallOf Key
   pub reply : TreeReply
 
+-- the lock object is not one of who commits
+abbrev pub IsFree : Geom → List Sector → Option Commit → ℕ → Type 0
+IsFree g sectors None object = Unit {0}
+IsFree g sectors (Some commit) object = ¬ Names g sectors commit.slot object
+
 -- a slot is written that held one value, and holds another
 pub record IsRewritten (g : Geom) (sectors : List Sector) (slot : ℕ) (s : Sector) (old new : Slot) : Type 0 where
   pub within : slot < g.slots
