@@ -1,26 +1,30 @@
 //! The checker of images: what is at odds in the sectors of a volume.
+//!
+//! Its stages, of which the first that finds something ends the check: headers (with the breakers of slots), journals,
+//! metadata, addresses, sharing, marking, names (with the entries of directories), and what is unreached.
 #![tactic(auto)]
 
 mod addresses;
+mod breakers;
 #[cfg(test)]
 mod changes_for_tests;
 mod checking;
 mod controls;
+mod entries;
 #[cfg(test)]
 mod finding_tests;
 mod findings;
 mod fronts;
+mod headers;
 #[cfg(test)]
 mod journal_tests;
 mod journals;
 #[cfg(test)]
 mod large_file_tests;
 mod listed;
-mod lost;
 mod marking;
-mod marks;
 mod metadata;
-mod naming;
+mod names;
 mod reports;
 mod rooms;
 mod sharing;
@@ -29,6 +33,7 @@ mod small_volume;
 #[cfg(test)]
 mod stage_tests;
 mod texts;
+mod unreached;
 mod uses;
 mod volumes;
 

@@ -7,7 +7,8 @@ ghost use Rattle.ds_image.specs.Owns.{bit};
 ghost use Rattle.ds_image.specs.Parts.{part_at, bits_in, maps_of};
 ghost use Rattle.ds_image.specs.Users.{users};
 ghost use Rattle.ds_check.specs.declared.findings.Find.TheVariants as finds;
-ghost use Rattle.ds_check.specs.Objects.{uses_of, is_in_use, mismarked, marking_stage};
+ghost use Rattle.ds_check.specs.Uses.{uses_of};
+ghost use Rattle.ds_check.specs.Marking.{is_in_use, mismarked, marking_stage};
 ghost use Rattle.ds_check.specs.Rows.{find_if, row};
 
 use crate::controls::descriptor_count;

@@ -1,6 +1,6 @@
 //! The fifth stage of a check: items that are listed twice.
 ghost use Rattle.std.specs.Prelude.{◌≡◌, ◌++◌, ℕ, List, slice_get, OnOk};
-ghost use Rattle.ds_check.specs.Objects.{twice, shared_items, sharing_stage};
+ghost use Rattle.ds_check.specs.Sharing.{twice, shared_items, sharing_stage};
 
 use crate::findings::Find;
 use crate::reports::Report;

@@ -13,12 +13,12 @@ use Rattle.ds_layout.specs.Metadata.{IsMetadata}
 use Rattle.ds_image.specs.Parts.{Parts, part_at}
 use Rattle.ds_image.specs.Planning.{Answers, Asks, AllKeep, AllAreFew}
 use Rattle.ds_image.specs.Reaching.{AllGuarded}
-use Rattle.ds_image.specs.Readings.{Reads}
+use Rattle.ds_image.specs.Readings.{ReadsParts}
 use Rattle.ds_image.specs.SeenValues.{SeenValue, IsSeen, has_lock, look_of, sector_in, with_lock, with_sector}
 use Rattle.ds_image.specs.Sound.{StandsFor}
 use Rattle.ds_image.specs.declared.asks.Ask.{Ask}
 use Rattle.ds_image.specs.declared.asks.Ask.TheVariants.{Lock, Read, Odd, Worn, Done, Change}
-use Rattle.ds_image.proofs.Sizes.{part_within}
+use Rattle.ds_image.proofs.Spelling.Sizes.{part_within}
 use Rattle.ds_image.proofs.Reaching.{all-few, all-fresh, all-guarded}
 use Rattle.ds_image.specs.Objects.{node_by}
 use Rattle.ds_image.proofs.Seeing.{sector_in-append, seen_read}
@@ -109,7 +109,7 @@ module _ (g : Geom) (call : CallOf Key) (answers : Answers) (image : List Sector
 
     -- what is seen spells parts, so what a planner answers by them is asked for
     pub asks_of : (seen : SeenValue) (asked : List Asked) (ask : Ask) → HasAsked g answers image seen asked
-        → ((p : Parts) → Reads g (look_of seen) p → ask ≡ answers seen p) → Asks g answers seen ask
+        → ((p : Parts) → ReadsParts g (look_of seen) p → ask ≡ answers seen p) → Asks g answers seen ask
     asks_of seen asked ask has answered =
         let few = short seen asked has in
         let is_seen : IsSeen seen = record {
@@ -129,7 +129,7 @@ module _ (g : Geom) (call : CallOf Key) (answers : Answers) (image : List Sector
       pub less : 280 - length (asked ++ asked_for.Lock object ∷ []) < 280 - length asked
 
     pub lock_step : (seen : SeenValue) (asked : List Asked) (object : ℕ) → HasAsked g answers image seen asked
-        → ((p : Parts) → Reads g (look_of seen) p → Lock object ≡ answers seen p) → LockStep seen asked object
+        → ((p : Parts) → ReadsParts g (look_of seen) p → Lock object ≡ answers seen p) → LockStep seen asked object
     lock_step seen asked object has answered =
         let asks = asks_of seen asked (Lock object) has answered in
         let few = few_of seen asked (Lock object) has asks in
@@ -151,7 +151,7 @@ module _ (g : Geom) (call : CallOf Key) (answers : Answers) (image : List Sector
       pub less : 280 - length (asked ++ asked_for.Read at ∷ []) < 280 - length asked
 
     pub read_step : (seen : SeenValue) (asked : List Asked) (at : ℕ) → HasAsked g answers image seen asked
-        → ((p : Parts) → Reads g (look_of seen) p → Read at ≡ answers seen p) → ReadStep seen asked at
+        → ((p : Parts) → ReadsParts g (look_of seen) p → Read at ≡ answers seen p) → ReadStep seen asked at
     read_step seen asked at has answered =
         let asks = asks_of seen asked (Read at) has answered in
         let keeps = kept is seen (Read at) asks in
@@ -166,7 +166,7 @@ module _ (g : Geom) (call : CallOf Key) (answers : Answers) (image : List Sector
         }
 
   -- a body that was seen is that of the image, and so of the tree
-  used-up : (seen : SeenValue) (p : Parts) (object : ℕ) (t : FileTree) → Reads g (look_of seen) p → Agrees seen image → IsWorn g call seen p object
+  used-up : (seen : SeenValue) (p : Parts) (object : ℕ) (t : FileTree) → ReadsParts g (look_of seen) p → Agrees seen image → IsWorn g call seen p object
       → StandsFor g image t → IsUsedUp t object
   used-up seen p object t reads agrees worn stands =
       let inside : object < items_of g Fd = omega (arith, part_within p.bodies object worn.body worn.there, reads.bodies.len) in
@@ -179,7 +179,7 @@ module _ (g : Geom) (call : CallOf Key) (answers : Answers) (image : List Sector
         last = ap (λ (o : Object). o.birth) is ∙ worn.last;
       }
 
-  module _ (seen : SeenValue) (p : Parts) (t : FileTree) (reads : Reads g (look_of seen) p) (agrees : Agrees seen image) (stands : StandsFor g image t) where
+  module _ (seen : SeenValue) (p : Parts) (t : FileTree) (reads : ReadsParts g (look_of seen) p) (agrees : Agrees seen image) (stands : StandsFor g image t) where
     ends : (ask : Ask) → HasForm g call seen p ask → IsRight g call seen image t ask → IsEnd ask → EndsRight g call image t ask
     ends (Lock object) form right ended = absurd ended
     ends (Read at) form right ended = absurd ended

@@ -14,10 +14,10 @@ use Rattle.ds_ptr.specs.PtrBlock.{IsPtrBlock, ptr_bytes}
 use Rattle.ds_ptr.specs.declared.ptr_block.PtrBlock.{PtrBlock}
 use Rattle.ds_image.specs.Looks.{Look, HasBytes}
 use Rattle.ds_image.specs.Parts.{Parts, part_at}
-use Rattle.ds_image.specs.Readings.{Reads, SpellsBody, SpellsPtr}
+use Rattle.ds_image.specs.Readings.{ReadsParts, SpellsBody, SpellsPtr}
 use Rattle.ds_image.specs.SeenValues.{SeenValue, has_lock, look_of}
-use Rattle.ds_image.proofs.Decoded.{decoded_same, numbered_at}
-use Rattle.ds_image.proofs.PartsRead.{ptr_read}
+use Rattle.ds_image.proofs.Spelling.Decoded.{decoded_same, numbered_at}
+use Rattle.ds_image.proofs.Spelling.PartsRead.{ptr_read}
 use Rattle.ds_plan_reads.specs.Finding.{body_sector, spelled, found}
 use Rattle.ds_plan_reads.specs.Pages.{ptr_sector}
 use Rattle.ds_plan_reads.specs.Questions.{Asked}
@@ -32,7 +32,7 @@ moved one other at s bytes here there has =
 decoded-alike : {V : Type 0} (a b : Option V) (D E : V → Type 0) → ((v : V) → D v → E v) → ((v : V) → E v → D v) → IsDecoded a D → IsDecoded b E → a ≡ b
 decoded-alike a b D E to from p q = decoded_same a b D p (λ v. (λ e. from v ((q v).0 e), λ d. (q v).1 (to v d)))
 
-module _ (g : Geom) (one other : Look) (p q : Parts) (reads : Reads g one p) (reads' : Reads g other q) where
+module _ (g : Geom) (one other : Look) (p q : Parts) (reads : ReadsParts g one p) (reads' : ReadsParts g other q) where
   -- a body's sector that both looks have spells the same
   pub body-alike : (o : ℕ) (s : Sector) → o < items_of g Fd → one (place_sector g (places.Body o)) ≡ Some s → other (place_sector g (places.Body o)) ≡ Some s
       → part_at p.bodies o ≡ part_at q.bodies o
@@ -52,7 +52,7 @@ module _ (g : Geom) (one other : Look) (p q : Parts) (reads : Reads g one p) (re
       (λ b d. (d.0, moved other one (ptr_sector g n) s (ptr_bytes b) there here d.1))
       (reads.ptrs.each n within) (reads'.ptrs.each n within)
 
-module _ (r : Asked) (seen : SeenValue) (p : Parts) (reads : Reads r.geom (look_of seen) p) where
+module _ (r : Asked) (seen : SeenValue) (p : Parts) (reads : ReadsParts r.geom (look_of seen) p) where
   -- where the object is held and its body was read, what the sector spells decides
   pub found-read : (s : Sector) (body : Option Body) → r.key.object < items_of r.geom Fd → has_lock seen r.key.object ≡ true
       → look_of seen (body_sector r) ≡ Some s

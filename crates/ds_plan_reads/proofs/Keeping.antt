@@ -16,12 +16,12 @@ use Rattle.ds_tree.specs.declared.calls.TreeReply.TheVariants.{NoObject}
 use Rattle.ds_image.specs.Asking.{Agrees, Keeps, HasItsBlock}
 use Rattle.ds_image.specs.Objects.{object_of, node_by}
 use Rattle.ds_image.specs.Parts.{Parts, part_at}
-use Rattle.ds_image.specs.Readings.{Reads}
+use Rattle.ds_image.specs.Readings.{ReadsParts}
 use Rattle.ds_image.specs.SeenValues.{SeenValue, has_lock, look_of}
 use Rattle.ds_image.specs.Sound.{StandsFor}
 use Rattle.ds_image.specs.declared.asks.Ask.{Ask}
 use Rattle.ds_image.specs.declared.asks.Ask.TheVariants.{Lock, Read, Odd, Done}
-use Rattle.ds_image.proofs.TreeParts.{object-is}
+use Rattle.ds_image.proofs.FileTrees.TreeParts.{object-is}
 use Rattle.ds_plan_reads.proofs.Alike.{body-alike}
 use Rattle.ds_plan_reads.specs.Answering.{and_then, IsNeeded}
 use Rattle.ds_plan_reads.proofs.Doing.{no-object}
@@ -146,7 +146,7 @@ module _ (r : Asked) (seen : SeenValue) (p : Parts) where
   }
 
   -- what an image that agrees stands for, at the object
-  module _ (reads : Reads r.geom (look_of seen) p) (image : List Sector) (t : FileTree) (stands : StandsFor r.geom image t) (agrees : Agrees seen image) where
+  module _ (reads : ReadsParts r.geom (look_of seen) p) (image : List Sector) (t : FileTree) (stands : StandsFor r.geom image t) (agrees : Agrees seen image) where
     pub body-there : (s : Sector) → r.key.object < items_of r.geom Fd → look_of seen (body_sector r) ≡ Some s
         → part_at p.bodies r.key.object ≡ part_at stands.parts.bodies r.key.object
     body-there s within read =
@@ -178,7 +178,7 @@ module _ (r : Asked) (seen : SeenValue) (p : Parts) where
         ap (λ n. if n == r.key.birth then node_at t r.key.object else None) life ∙ ap (λ test. if test then node_at t r.key.object else None) other
 
   -- the object of a body, by its kind
-  lawful-living : (reads : Reads r.geom (look_of seen) p) (s : Sector) → r.key.object < items_of r.geom Fd → has_lock seen r.key.object ≡ true
+  lawful-living : (reads : ReadsParts r.geom (look_of seen) p) (s : Sector) → r.key.object < items_of r.geom Fd → has_lock seen r.key.object ≡ true
       → look_of seen (body_sector r) ≡ Some s → (b : Body) → part_at p.bodies r.key.object ≡ Some b → (kind : Option NodeKind) → b.kind ≡ kind
       → IsLawfulOr r seen p (IsFound r seen p) (living r.key b kind)
   lawful-living reads s within held read b there None is =
@@ -200,7 +200,7 @@ module _ (r : Asked) (seen : SeenValue) (p : Parts) where
       (λ image t stands agrees. no-object r.geom t r.key r.question
       (none-later reads image t stands agrees b (sym (body-there reads image t stands agrees s within read) ∙ there) other)))
 
-  lawful-spelled : (reads : Reads r.geom (look_of seen) p) (s : Sector) → r.key.object < items_of r.geom Fd → has_lock seen r.key.object ≡ true
+  lawful-spelled : (reads : ReadsParts r.geom (look_of seen) p) (s : Sector) → r.key.object < items_of r.geom Fd → has_lock seen r.key.object ≡ true
       → look_of seen (body_sector r) ≡ Some s → (body : Option Body) → part_at p.bodies r.key.object ≡ body
       → IsLawfulOr r seen p (IsFound r seen p) (spelled (body_sector r) r.key body)
   lawful-spelled reads s within held read None there =
@@ -210,7 +210,7 @@ module _ (r : Asked) (seen : SeenValue) (p : Parts) where
       false≢true (sym (ap is_some none) ∙ stands.sound.bodies r.key.object (omega (arith, stands.reads.bodies.len, within))))
   lawful-spelled reads s within held read (Some b) there = lawful-living reads s within held read b there b.kind refl
 
-  pub lawful-found : Reads r.geom (look_of seen) p → IsLawfulOr r seen p (IsFound r seen p) (found r seen p)
+  pub lawful-found : ReadsParts r.geom (look_of seen) p → IsLawfulOr r seen p (IsFound r seen p) (found r seen p)
   lawful-found reads =
       let P : Result Found Ask → Type 0 = IsLawfulOr r seen p (IsFound r seen p) in
       let o : ℕ = r.key.object in

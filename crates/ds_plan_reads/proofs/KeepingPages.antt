@@ -14,7 +14,7 @@ use Rattle.ds_tree.specs.Nodes.{FileTree}
 use Rattle.ds_image.specs.Asking.{Agrees}
 use Rattle.ds_image.specs.Objects.{addresses_in, blocks_by, pointed_by}
 use Rattle.ds_image.specs.Parts.{Parts, part_at}
-use Rattle.ds_image.specs.Readings.{Reads}
+use Rattle.ds_image.specs.Readings.{ReadsParts}
 use Rattle.ds_image.specs.SeenValues.{SeenValue, has_lock, look_of}
 use Rattle.ds_image.specs.Sound.{StandsFor}
 use Rattle.ds_image.specs.declared.asks.Ask.{Ask}
@@ -44,7 +44,7 @@ pub record IsPage (r : Asked) (seen : SeenValue) (b : Body) (page : ℕ) (x : Pa
   pub right : (image : List Sector) (t : FileTree) (stands : StandsFor r.geom image t) → Agrees seen image
       → x.blocks.items ≡ take 128 (drop (128 * page) (blocks_by stands.parts b (Some kinds.File)))
 
-module _ (r : Asked) (seen : SeenValue) (p : Parts) (reads : Reads r.geom (look_of seen) p) (b : Body) (is : IsFile r seen p b) (page : ℕ) where
+module _ (r : Asked) (seen : SeenValue) (p : Parts) (reads : ReadsParts r.geom (look_of seen) p) (b : Body) (is : IsFile r seen p b) (page : ℕ) where
   known-body : IsSome (look_of seen (body_sector r))
   known-body = ap is_some is.read
 

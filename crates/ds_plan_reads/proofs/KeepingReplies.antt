@@ -15,7 +15,7 @@ use Rattle.ds_tree.specs.declared.calls.TreeReply.TheVariants.{Info, Blocks, Ope
 use Rattle.ds_image.specs.Asking.{Agrees}
 use Rattle.ds_image.specs.Objects.{node_by, blocks_by, entries_of, subs_by}
 use Rattle.ds_image.specs.Parts.{Parts, part_at}
-use Rattle.ds_image.specs.Readings.{Reads}
+use Rattle.ds_image.specs.Readings.{ReadsParts}
 use Rattle.ds_image.specs.SeenValues.{SeenValue, look_of}
 use Rattle.ds_image.specs.Sound.{StandsFor}
 use Rattle.ds_image.specs.declared.asks.Ask.{Ask}
@@ -38,7 +38,7 @@ use Rattle.ds_plan_reads.specs.declared.questions.Question.TheVariants.{Stat, Ma
 abbrev pub IsLawfulReply : Asked → SeenValue → Parts → TreeReply → Type 0
 IsLawfulReply r seen p reply = IsLawful r seen p (Done reply)
 
-module _ (r : Asked) (seen : SeenValue) (p : Parts) (reads : Reads r.geom (look_of seen) p) where
+module _ (r : Asked) (seen : SeenValue) (p : Parts) (reads : ReadsParts r.geom (look_of seen) p) where
   -- the node of a body that was found, in a tree for which an image that agrees stands
   module _ (b : Body) (kind : NodeKind) (is : IsFound r seen p (record { body = b; kind = kind })) (image : List Sector) (t : FileTree)
       (stands : StandsFor r.geom image t) (agrees : Agrees seen image) where

@@ -19,12 +19,12 @@ use Rattle.ds_image.specs.Looks.{Look}
 use Rattle.ds_image.specs.Objects.{addresses_in, ptrs_of, blocks_of, blocks_by}
 use Rattle.ds_image.specs.Owns.{IsAt}
 use Rattle.ds_image.specs.Parts.{Parts, part_at}
-use Rattle.ds_image.specs.Readings.{Reads}
+use Rattle.ds_image.specs.Readings.{ReadsParts}
 use Rattle.ds_image.specs.Sound.{IsSound, ptr_lists}
 use Rattle.ds_image.proofs.Guarding.{lister_found}
-use Rattle.ds_image.proofs.Listed.{ptr_listed_within, block_listed_within}
-use Rattle.ds_image.proofs.Sizes.{body_is, many_pointers, file_size, ptr_length}
-use Rattle.ds_image.proofs.SoundParts.{list-is}
+use Rattle.ds_image.proofs.Ownership.Listed.{ptr_listed_within, block_listed_within}
+use Rattle.ds_image.proofs.Spelling.Sizes.{body_is, many_pointers, file_size, ptr_length}
+use Rattle.ds_image.proofs.Spelling.SoundParts.{list-is}
 use Rattle.ds_plan_reads.specs.Pages.{pointer_of}
 use Rattle.ds_plan_reads.proofs.PageLists.{page-cut_off}
 
@@ -48,7 +48,7 @@ page-beyond count page large past =
     let most : pointer_blocks count ≡ (count + 127) / 128 = rw large refl in
     omega (arith, beyond, most)
 
-module _ (g : Geom) (look : Look) (p : Parts) (o : ℕ) (b : Body) (reads : Reads g look p) (sound : IsSound p) (there : part_at p.bodies o ≡ Some b)
+module _ (g : Geom) (look : Look) (p : Parts) (o : ℕ) (b : Body) (reads : ReadsParts g look p) (sound : IsSound p) (there : part_at p.bodies o ≡ Some b)
     (kind : b.kind ≡ Some kinds.File) where
   count-most : b.count ≤ 12288
   count-most = subst (λ k. b.count ≤ most_count k) kind (body_is g look p o b reads there).ranges.count_to

@@ -14,12 +14,12 @@ use Rattle.ds_fd.specs.declared.body.Body.{Body}
 use Rattle.ds_image.specs.Asking.{Reached, Start, Locked, Given, IsFew, HasForm}
 use Rattle.ds_image.specs.Parts.{Parts, part_at}
 use Rattle.ds_image.specs.Planning.{Asks}
-use Rattle.ds_image.specs.Readings.{Reads}
+use Rattle.ds_image.specs.Readings.{ReadsParts}
 use Rattle.ds_image.specs.SeenValues.{SeenValue, has_lock, look_of, sector_in, with_lock, with_sector}
 use Rattle.ds_image.specs.declared.asks.Ask.{Ask}
 use Rattle.ds_image.specs.declared.asks.Ask.TheVariants.{Lock, Read, Odd, Worn, Done, Change}
 use Rattle.ds_image.proofs.Seeing.{sector_in-append}
-use Rattle.ds_image.proofs.Sizes.{part_within}
+use Rattle.ds_image.proofs.Spelling.Sizes.{part_within}
 use Rattle.ds_plan_reads.proofs.Alike.{body-alike}
 use Rattle.ds_plan_reads.specs.Answering.{answers_of, IsNeeded}
 use Rattle.ds_plan_reads.specs.Finding.{body_sector}

@@ -71,7 +71,7 @@ impl ObjectReads {
 
     /// The object of the key, or what is asked or answered in its place.
     fn found(&self, seen: &Seen) -> Result<Found, Ask>
-        ensures exact { (p : Parts) → readings.Reads self.now.geom (look_of seen.now) p → result ≡ found self.now seen.now p }
+        ensures exact { (p : Parts) → readings.ReadsParts self.now.geom (look_of seen.now) p → result ≡ found self.now seen.now p }
         ensures body { IfOk result (λ f. IsBody f.body) }
         ensures object { IsOk result → self.now.key.object < items_of self.now.geom kinds.Fd }
         ensures whole { IsSeen seen.now }
@@ -96,7 +96,7 @@ impl ObjectReads {
     fn page(&self, seen: &Seen, body: &Body, page: u32) -> Result<Page, Ask>
         requires object { self.now.key.object < items_of self.now.geom kinds.Fd }
         requires body { IsBody body.now }
-        ensures exact { (p : Parts) → readings.Reads self.now.geom (look_of seen.now) p
+        ensures exact { (p : Parts) → readings.ReadsParts self.now.geom (look_of seen.now) p
             → result ≡ page_of self.now seen.now p body.now page }
         ensures size { IfOk result (λ x. length x.blocks.items ≡ min 128 (body.now.count - 128 * page)) }
     {
@@ -118,7 +118,7 @@ impl ObjectReads {
     /// The first blocks in a pointer block, or that it is to be read.
     fn pointed(&self, seen: &Seen, pointer: u32, count: u32) -> Result<Page, Ask>
         requires { pointer < items_of self.now.geom kinds.Pb }
-        ensures exact { (p : Parts) → readings.Reads self.now.geom (look_of seen.now) p
+        ensures exact { (p : Parts) → readings.ReadsParts self.now.geom (look_of seen.now) p
             → result ≡ pointed_by self.now seen.now p pointer count }
         ensures size { IfOk result (λ x. length x.blocks.items ≡ min 128 count) }
     {
@@ -136,7 +136,7 @@ impl ObjectReads {
     fn block(&self, seen: &Seen, body: &Body, index: u32) -> Result<TreeReply, Ask>
         requires object { self.now.key.object < items_of self.now.geom kinds.Fd }
         requires body { IsBody body.now }
-        ensures { (p : Parts) → readings.Reads self.now.geom (look_of seen.now) p
+        ensures { (p : Parts) → readings.ReadsParts self.now.geom (look_of seen.now) p
             → result ≡ block_at self.now seen.now p body.now index }
     {
         if index >= body.count {
@@ -152,7 +152,7 @@ impl ObjectReads {
 
     /// The reply to the call, or what is asked in its place.
     fn reply(&self, seen: &Seen) -> Result<TreeReply, Ask>
-        ensures exact { (p : Parts) → readings.Reads self.now.geom (look_of seen.now) p
+        ensures exact { (p : Parts) → readings.ReadsParts self.now.geom (look_of seen.now) p
             → result ≡ and_then (found self.now seen.now p) (reply_of self.now seen.now p self.now.question) }
         ensures whole { IsSeen seen.now }
         ensures geom { IsGeom self.now.geom }
@@ -178,10 +178,10 @@ impl ObjectReads {
     /// What the call needs next by what it has seen, or its reply: the lock of its object, the object's body, and at most one of its
     /// pointer blocks.
     pub fn ask(&self, seen: &Seen) -> Ask
-        ensures exact { (p : Parts) → readings.Reads self.now.geom (look_of seen.now) p
+        ensures exact { (p : Parts) → readings.ReadsParts self.now.geom (look_of seen.now) p
             → result ≡ answers_of self.now seen.now p }
         ensures reads { (at : ℕ) → result ≡ Ask.Read at
-            → (p : Parts) → readings.Reads self.now.geom (look_of seen.now) p → IsNeeded self.now p at }
+            → (p : Parts) → readings.ReadsParts self.now.geom (look_of seen.now) p → IsNeeded self.now p at }
     {
         match self.reply(seen) {
             Ok(reply) => Ask::Done(reply),

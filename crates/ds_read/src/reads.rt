@@ -57,10 +57,10 @@ impl Plan for Reads {
     ghost answers = { answers_of };
 
     fn ask(&self, seen: &Seen) -> Ask
-        ensures exact { (p : Parts) → readings.Reads self.now.geom (look_of seen.now) p
+        ensures exact { (p : Parts) → readings.ReadsParts self.now.geom (look_of seen.now) p
             → result ≡ answers_of self.now seen.now p }
         ensures reads { (at : ℕ) → result ≡ Ask.Read at
-            → (p : Parts) → readings.Reads self.now.geom (look_of seen.now) p → IsNeeded self.now p at }
+            → (p : Parts) → readings.ReadsParts self.now.geom (look_of seen.now) p → IsNeeded self.now p at }
     {
         self.reads.ask(seen)
     }

@@ -3,7 +3,7 @@ use Rattle.ds_base.specs.Geometry.{items_of}
 use Rattle.ds_base.specs.declared.geometry.Kind.TheVariants.{Fd}
 use Rattle.ds_plan_reads.specs.Finding.{body_sector, spelled, found}
 use Rattle.ds_plan_reads.specs.Questions.{Asked}
-use Rattle.ds_image.specs.Readings.{Reads}
+use Rattle.ds_image.specs.Readings.{ReadsParts}
 use Rattle.ds_image.specs.SeenValues.{has_lock, look_of}
 use Rattle.ds_plan_reads.proofs.Alike.{found-read}
 use Rattle.ds_plan_reads.proofs.reads.ObjectReads.found.Goals as goal
@@ -12,7 +12,7 @@ pub returns-clause-exact : goal.returns-clause-exact
 returns-clause-exact c p reads =
     let r : Asked = record { geom = c.self.inside.geom; slot = c.self.inside.slot; key = c.self.inside.key; question = c.self.inside.question } in
     let same : r ≡ c.args.self.now = c.self.view_is in
-    let here : Reads r.geom (look_of c.args.seen.now) p = subst (λ (v : Asked). Reads v.geom (look_of c.args.seen.now) p) (sym same) reads in
+    let here : ReadsParts r.geom (look_of c.args.seen.now) p = subst (λ (v : Asked). ReadsParts v.geom (look_of c.args.seen.now) p) (sym same) reads in
     let at = c.sector_of-at.ensures in
     let read : look_of c.args.seen.now (body_sector r) ≡ Some c.in-Some.sector.now = ap (look_of c.args.seen.now) (sym at) ∙ c.in-Some.ensures.exact in
     let within : r.key.object < items_of r.geom Fd = subst (λ n. r.key.object < n) c.item_count.ensures c.if-object-item_count.false in
