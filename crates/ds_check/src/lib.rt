@@ -10,7 +10,6 @@ mod controls;
 mod finding_tests;
 mod findings;
 mod fronts;
-mod growing;
 #[cfg(test)]
 mod journal_tests;
 mod journals;
