@@ -5,9 +5,9 @@ ghost use Rattle.ds_check.specs.Rows.{find_if};
 ghost use Rattle.ds_check.specs.Texts.{report_text, find_line};
 
 use crate::findings::Find;
-use crate::growing::Growing;
 use crate::texts::write_find;
 use ds_base::NoMemory;
+use ds_text::Text;
 use std::alloc::Global;
 use std::marker::Model;
 
@@ -66,7 +66,7 @@ impl Report {
     pub fn text(&self) -> Result<Vec<u8>, NoMemory>
         ensures { IfOk result (λ text. text.items ≡ report_text self.now) }
     {
-        let mut text = Growing::new(*self.findings.allocator());
+        let mut text = Text::new(*self.findings.allocator());
         if self.findings.is_empty() {
             text.bytes(b"clean\n")?;
         }
@@ -75,7 +75,7 @@ impl Report {
     }
 }
 
-fn write_lines(text: &mut Growing, finds: &[Find]) -> Result<(), NoMemory>
+fn write_lines(text: &mut Text, finds: &[Find]) -> Result<(), NoMemory>
     ensures { OnOk result (text.new ≡ text.old ++ flat_map find_line finds.now) }
 {
     for find in finds {
@@ -84,7 +84,7 @@ fn write_lines(text: &mut Growing, finds: &[Find]) -> Result<(), NoMemory>
     Ok(())
 }
 
-fn write_line(text: &mut Growing, find: &Find) -> Result<(), NoMemory>
+fn write_line(text: &mut Text, find: &Find) -> Result<(), NoMemory>
     ensures { OnOk result (text.new ≡ text.old ++ find_line find.now) }
 {
     write_find(text, find)?;
