@@ -1,6 +1,6 @@
 -- The form of the scenarios that can be run now: a volume of one geometry, and at most one host, which registers and then
 -- creates and looks up files in the root directory.
-use Rattle.std.specs.Prelude.{◌≡◌, ◌≢◌, ℕ, ◌+◌, ◌≤◌, ◌<◌, ◌⊎◌, Bool, true, false, List, [], ◌∷◌, ◌++◌, length, take, slice_get, count_by, codes, Some, None}
+use Rattle.std.specs.Prelude.{◌≡◌, ◌≢◌, ℕ, ◌≤◌, ◌<◌, ◌⊎◌, Bool, true, false, List, [], ◌∷◌, ◌++◌, length, take, slice_get, count_by, codes, Some, None}
 use Rattle.std.specs.List.{flat_map, AllByRecursion}
 use Rattle.ds_base.specs.declared.geometry.Geom.{Geom}
 use Rattle.ds_base.specs.Names.{IsName}
