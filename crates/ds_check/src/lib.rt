@@ -2,20 +2,12 @@
 #![tactic(auto)]
 
 mod addresses;
-#[cfg(test)]
-mod changes_for_tests;
 mod checking;
 mod controls;
-#[cfg(test)]
-mod finding_tests;
 mod findings;
 mod fronts;
 mod growing;
-#[cfg(test)]
-mod journal_tests;
 mod journals;
-#[cfg(test)]
-mod large_file_tests;
 mod listed;
 mod lost;
 mod marking;
@@ -25,10 +17,6 @@ mod naming;
 mod reports;
 mod rooms;
 mod sharing;
-#[cfg(test)]
-mod small_volume;
-#[cfg(test)]
-mod stage_tests;
 mod texts;
 mod uses;
 mod volumes;
