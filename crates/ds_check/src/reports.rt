@@ -90,37 +90,3 @@ fn write_line(text: &mut Text, find: &Find) -> Result<(), NoMemory>
     write_find(text, find)?;
     text.bytes(b"\n")
 }
-
-#[cfg(test)]
-mod tests {
-    use super::*;
-    use ds_base::Kind;
-    use std::test::Fail;
-
-    #[test]
-    fn each_finding_is_a_line(rt: HostRuntime) -> Result<(), Fail> {
-        let mut report = Report::new(rt.alloc());
-        assert_eq!(rt; report.text()?.as_slice(), b"clean\n".as_slice());
-
-        report.note(Find::SectorForm { sector: 1 })?;
-        report.note(Find::JournalsShare {
-            first: 0,
-            second: 3,
-            sector: 147,
-        })?;
-        report.note_if(false, Find::Root)?;
-        report.note_if(true, Find::Root)?;
-        report.note(Find::Twice {
-            kind: Kind::Fb,
-            item: 0,
-            first: 1,
-            second: 2,
-        })?;
-        report.note(Find::Dangling { object: 0, room: 5 })?;
-        let lines =
-            b"sector 1 form\njournals 0 3 share 147\nroot\nfb 0 twice 1 2\nobject 0 room 5 dangling\n";
-        assert_eq!(rt; report.text()?.as_slice(), lines.as_slice());
-        assert_eq!(rt; report.findings().len(), 5);
-        Ok(())
-    }
-}

@@ -1,8 +1,6 @@
 //! The file tree, the calls on it, and the scenarios that hosts carry out.
 #![tactic(auto)]
 
-#[cfg(test)]
-mod big_tests;
 mod builders;
 mod call_kinds;
 mod calls;
@@ -11,14 +9,10 @@ mod counts;
 mod listing;
 mod objects;
 mod reads;
-#[cfg(test)]
-mod refusal_tests;
 mod refusals;
 mod scenarios;
 mod steps;
 mod tables;
-#[cfg(test)]
-mod tests;
 mod trees;
 mod variables;
 

@@ -1,7 +1,7 @@
 //! Images for tests: formatted volumes with some bytes changed.
 
-use crate::{Report, check};
 use ds_base::{Geom, Sector};
+use ds_check::{Report, check};
 use ds_image::format;
 use std::alloc::Global;
 use std::test::Fail;

@@ -1,9 +1,9 @@
 //! Creates and Mkdirs, one after another.
 
-use crate::Asked;
 use crate::calls_for_tests::{create, key, mkdir};
 use crate::volumes_for_tests::{Volume, numbered_file};
 use ds_base::{Geom, Kind, NodeKind, SectorNo};
+use ds_plan_alone::Asked;
 use ds_tree::{Call, TreeReply};
 use std::alloc::Global;
 use std::process::Abort;

@@ -1,11 +1,11 @@
 //! Lookups and Lists on a volume whose root has 36 files in twelve sub-blocks, each with a free room.
 
-use crate::Asked;
 use crate::calls_for_tests::{create, list, lookup, remove, rename, rmdir};
 use crate::volumes_for_tests::{Volume, entry};
 use ds_base::{Geom, Key, Kind, NodeKind, Sector};
 use ds_dir::Entry;
 use ds_image::Ask;
+use ds_plan_alone::Asked;
 use ds_tree::TreeReply;
 use std::alloc::Global;
 use std::process::Abort;

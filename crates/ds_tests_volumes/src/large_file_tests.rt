@@ -1,6 +1,6 @@
 use crate::changes_for_tests::{A_FILE, Change, formatted, put, put_all};
-use crate::{Find, check};
 use ds_base::{Geom, Kind};
+use ds_check::{Find, check};
 use std::test::Fail;
 
 /// As the small volume, with 512 blocks at sectors 190 to 701.

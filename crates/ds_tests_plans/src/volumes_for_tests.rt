@@ -2,7 +2,6 @@
 ghost use Rattle.std.specs.Prelude.{◌≡◌};
 
 use crate::calls_for_tests::{has_names, is_on_names, is_reading, is_resize, key};
-use crate::{Asked, Course, carry_out};
 use ds_base::{Geom, Key, Kind, Name, NodeKind, Sector, SectorNo, SlotNo};
 use ds_bitmap::Bits;
 use ds_dir::{Entry, SubBlock};
@@ -12,6 +11,7 @@ use ds_jrnl::Redo;
 use ds_layout::total;
 use ds_lun::MemLun;
 use ds_names::Names;
+use ds_plan_alone::{Asked, Course, carry_out};
 use ds_read::Reads;
 use ds_space::Space;
 use ds_tree::{Call, Tree, TreeReply};

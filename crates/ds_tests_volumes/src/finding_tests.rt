@@ -1,6 +1,6 @@
 use crate::changes_for_tests::{A_FILE, Change, FILE_2, FILE_3, SMALL, changed, formatted, found};
-use crate::{CheckFault, Find, check};
 use ds_base::{Kind, Sector};
+use ds_check::{CheckFault, Find, check};
 use std::alloc::Global;
 use std::test::Fail;
 

@@ -1,11 +1,11 @@
 //! Renames on a volume with three directories.
 
-use crate::Asked;
 use crate::calls_for_tests::{key, rename};
 use crate::volumes_for_tests::{Volume, entry};
 use ds_base::{Geom, Key, Kind, NodeKind};
 use ds_dir::Entry;
 use ds_image::Ask;
+use ds_plan_alone::Asked;
 use ds_tree::TreeReply;
 use std::alloc::Global;
 use std::process::Abort;

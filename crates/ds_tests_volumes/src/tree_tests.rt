@@ -2,9 +2,9 @@
 ghost use Rattle.std.specs.Prelude.{IsTrue};
 ghost use Rattle.ds_tree.specs.CallNames.{HasNames};
 
-use super::*;
 use arrayvec::ArrayVec;
 use ds_base::{Geom, Key, Name, NodeKind, Word};
+use ds_tree::{Call, CallOf, Tree, TreeReply};
 use std::alloc::Global;
 use std::process::Abort;
 use std::test::Fail;

@@ -1,9 +1,9 @@
 //! A small volume as its hosts leave it: what its logical image holds, what is bad in it, and who guards its sectors.
 
-use crate::{Image, ImageFault, Seen, guard, overlay};
 use arrayvec::ArrayVec;
 use ds_base::{Geom, Kind, NodeKind, Sector, SectorNo, SlotNo};
 use ds_fd::Body;
+use ds_image::{Image, ImageFault, Seen, guard, overlay};
 use ds_jrnl::Index;
 use ds_layout::total;
 use ds_lun::MemLun;

@@ -1,5 +1,5 @@
-use crate::format;
 use ds_base::{Geom, Sector};
+use ds_image::format;
 use ds_layout::decode_vol;
 use std::test::Fail;
 use uuid::Uuid;

@@ -1,10 +1,10 @@
 //! The calls that ask for most.
 
-use crate::Asked;
 use crate::calls_for_tests::{key, remove, rename};
 use crate::volumes_for_tests::{Volume, entry, numbered_file};
 use ds_base::{Geom, Kind, NodeKind};
 use ds_dir::Entry;
+use ds_plan_alone::Asked;
 use ds_ptr::PtrBlock;
 use ds_tree::TreeReply;
 use std::alloc::Global;

@@ -1,10 +1,10 @@
 //! A small volume as its hosts leave it stands for a tree, and for none once one thing in it is wrong.
 
-use crate::{format, overlay, read_tree};
 use ds_base::{Geom, Key, Kind, Name, NodeKind, Sector};
 use ds_bitmap::Bits;
 use ds_dir::{Entry, SubBlock};
 use ds_fd::Body;
+use ds_image::{format, overlay, read_tree};
 use ds_layout::total;
 use ds_lun::MemLun;
 use ds_ptr::PtrBlock;

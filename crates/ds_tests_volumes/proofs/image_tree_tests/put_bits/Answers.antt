@@ -2,7 +2,7 @@
 use Rattle.std.proofs.Common.{arith, rules}
 use Rattle.ds_base.specs.Geometry.{IsGeom}
 use Rattle.ds_base.specs.declared.geometry.GeomField.TheVariants.{Clusters}
-use Rattle.ds_image.proofs.tree_tests.put_bits.Goals as goal
+use Rattle.ds_tests_volumes.proofs.image_tree_tests.put_bits.Goals as goal
 
 pub new-bits-requires-clause-cluster : goal.new-bits-requires-clause-cluster
 new-bits-requires-clause-cluster c =

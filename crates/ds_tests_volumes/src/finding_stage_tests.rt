@@ -1,6 +1,6 @@
-use crate::Find;
 use crate::changes_for_tests::{A_FILE, Change, FILE_2, FILE_3, found};
 use ds_base::Kind;
+use ds_check::Find;
 use std::test::Fail;
 
 #[test]

@@ -1,7 +1,7 @@
 //! One case for each refusal of each call, and cases in which two refusals' conditions hold together.
-use super::*;
-use crate::tests::*;
+use crate::tree_tests::*;
 use ds_base::{Key, Kind, NodeKind};
+use ds_tree::{Call, CallOf, Tree, TreeReply};
 use std::alloc::Global;
 use std::process::Abort;
 use std::test::Fail;

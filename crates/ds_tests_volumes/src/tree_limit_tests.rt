@@ -1,10 +1,10 @@
 //! Full directories, the largest file, and a tree of all the descriptors that a volume may have.
 ghost use Rattle.std.specs.Prelude.{◌≤◌, ◌+◌};
 
-use super::*;
-use crate::tests::*;
+use crate::tree_tests::*;
 use arrayvec::ArrayVec;
 use ds_base::{Key, Kind, Name, NodeKind};
+use ds_tree::{Call, CallOf, Tree, TreeReply};
 use std::process::Abort;
 use std::test::Fail;
 

@@ -1,10 +1,10 @@
 //! Stats, Maps, OpenFiles and Ats on a volume with files of several sizes.
 
-use crate::Asked;
 use crate::calls_for_tests::asking;
 use crate::volumes_for_tests::{Volume, entry};
 use ds_base::{Geom, Key, Kind, NodeKind, Sector, SectorNo};
 use ds_image::Ask;
+use ds_plan_alone::Asked;
 use ds_ptr::PtrBlock;
 use ds_plan_reads::Question;
 use ds_tree::TreeReply;
