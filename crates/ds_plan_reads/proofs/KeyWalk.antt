@@ -1,5 +1,5 @@
 -- A planner that wants the body of a key's object asks for what it may.
-use Rattle.std.proofs.Common.{◌≡◌, ℕ, ◌<◌, ◌==◌, ◌&&◌, Bool, true, false, nat_lt, if◌then◌else◌, inl, List, Option, None, Some, refl, sym, ap, ◌∙◌, is_some, slice_get, arith}
+use Rattle.std.proofs.Common.{◌≡◌, ℕ, ◌<◌, ◌==◌, ◌&&◌, Bool, true, false, nat_lt, if◌then◌else◌, inl, List, Option, None, Some, refl, sym, ap, ◌∙◌, is_some, arith}
 use Rattle.std.specs.List.{Contains}
 use Rattle.std.specs.Prelude.{Ok, Err, IsSome}
 use Rattle.std.proofs.lemmas.Bool.{false≢true}

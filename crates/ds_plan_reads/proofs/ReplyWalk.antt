@@ -1,5 +1,5 @@
 -- All that the planner of a call that only reads an object asks for is good.
-use Rattle.std.proofs.Common.{◌≡◌, ℕ, ◌*◌, true, List, length, Option, None, Some, refl, sym, ap, subst, ◌∙◌, is_some, slice_get, arith}
+use Rattle.std.proofs.Common.{◌≡◌, ℕ, ◌*◌, Option, None, Some, refl, sym, ap, subst, ◌∙◌, is_some, slice_get, arith}
 use Rattle.std.specs.List.{Contains}
 use Rattle.std.specs.Prelude.{Ok}
 use Rattle.std.proofs.lemmas.Bool.{false≢true}
@@ -7,15 +7,12 @@ use Rattle.ds_base.specs.declared.geometry.Geom.{Geom}
 use Rattle.ds_base.specs.declared.names.Key.{Key}
 use Rattle.ds_base.specs.declared.names.NodeKind.{NodeKind}
 use Rattle.ds_base.specs.declared.names.NodeKind.TheVariants as kinds
-use Rattle.ds_base.specs.declared.sectors.Sector.{Sector}
 use Rattle.ds_fd.specs.declared.body.Body.{Body}
-use Rattle.ds_image.specs.Asking.{Agrees}
 use Rattle.ds_image.specs.Locks.{keys_of}
 use Rattle.ds_image.specs.Objects.{entries_of, subs_by}
 use Rattle.ds_image.specs.Parts.{Parts}
 use Rattle.ds_image.specs.Readings.{Reads}
 use Rattle.ds_image.specs.SeenValues.{SeenValue, look_of}
-use Rattle.ds_image.specs.Sound.{StandsFor}
 use Rattle.ds_image.specs.declared.asks.Ask.{Ask}
 use Rattle.ds_image.specs.declared.asks.Ask.TheVariants as asks
 use Rattle.ds_plan_base.proofs.Goes.{Goes}

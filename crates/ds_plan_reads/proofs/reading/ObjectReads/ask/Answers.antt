@@ -1,5 +1,5 @@
 -- A sector that is asked for is one of those that the call reads.
-use Rattle.std.proofs.Common.{◌≡◌, sym, ap, ◌∙◌}
+use Rattle.std.proofs.Common.{sym, ap, ◌∙◌}
 use Rattle.ds_plan_base.specs.Steps.{settled}
 use Rattle.ds_plan_reads.proofs.Laws.{reads_needed}
 use Rattle.ds_plan_reads.proofs.reading.ObjectReads.ask.Goals as goal
