@@ -1,9 +1,5 @@
-mod Alike
-mod Doing
-mod Keeping
-mod KeepingPages
-mod KeepingReplies
 pub mod Laws
-mod PageLists
-mod Pointers
-mod Small
+mod BlockWalk
+mod Doing
+mod KeyWalk
+mod ReplyWalk

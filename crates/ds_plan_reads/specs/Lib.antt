@@ -1,4 +1,2 @@
-pub mod Answering
-pub mod Finding
-pub mod Pages
-pub mod Questions
+pub mod Answers
+pub mod Blocks

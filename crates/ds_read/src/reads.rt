@@ -1,7 +1,7 @@
 //! The planner of the calls that only read.
 ghost use Rattle.std.specs.Prelude.{◌≡◌};
 ghost use Rattle.ds_base.specs.Geometry.{IsGeom};
-ghost use Rattle.ds_plan_reads.specs.Questions.{IsReading, call_of};
+ghost use Rattle.ds_plan_reads.specs.Answers.{IsReading, call_of};
 
 use ds_base::{Geom, SlotNo};
 use ds_image::{Ask, Plan, Seen};
@@ -9,17 +9,17 @@ use ds_plan_reads::ObjectReads;
 use ds_tree::Call;
 use std::marker::Model;
 
-/// What a host does for a call that only reads an object: the object's lock, its body, and where a page of a large file is needed
-/// one of its pointer blocks.
+/// What a host does for a call that only reads an object: which lock it takes next, which sector it reads next, and what it answers
+/// then.
 #[derive(Debug, Drop)]
 pub struct Reads {
     reads: ObjectReads,
 }
 
 impl Model for Reads {
-    ghost use Rattle.ds_plan_reads.specs.Questions.{Asked};
+    ghost use Rattle.ds_plan_reads.specs.Answers.{ReadsValue};
 
-    ghost Value = { Asked };
+    ghost Value = { ReadsValue };
 
     ghost view = { λ plan. plan.reads };
 }
@@ -40,12 +40,12 @@ impl Reads {
 }
 
 impl Plan for Reads {
+    ghost use Rattle.std.specs.List.{Contains};
     ghost use Rattle.std.specs.Prelude.{◌≡◌, ℕ};
     ghost use Rattle.ds_image.specs.Parts.{Parts};
     ghost use Rattle.ds_image.specs.Readings as readings;
     ghost use Rattle.ds_image.specs.SeenValues.{look_of};
-    ghost use Rattle.ds_plan_reads.specs.Answering.{answers_of, IsNeeded};
-    ghost use Rattle.ds_plan_reads.specs.Questions.{call_of};
+    ghost use Rattle.ds_plan_reads.specs.Answers.{answers_of, call_of, sectors_of};
     ghost use Rattle.ds_plan_reads.proofs.Laws.{reads_allowed, reads_few, reads_keep};
 
     ghost geom = { λ plan. plan.geom };
@@ -56,11 +56,12 @@ impl Plan for Reads {
 
     ghost answers = { answers_of };
 
+    /// It reads no more than its object's body and one pointer block.
     fn ask(&self, seen: &Seen) -> Ask
-        ensures exact { (p : Parts) → readings.ReadsParts self.now.geom (look_of seen.now) p
+        ensures answer { (p : Parts) → readings.Reads self.now.geom (look_of seen.now) p
             → result ≡ answers_of self.now seen.now p }
         ensures reads { (at : ℕ) → result ≡ Ask.Read at
-            → (p : Parts) → readings.ReadsParts self.now.geom (look_of seen.now) p → IsNeeded self.now p at }
+            → (p : Parts) → readings.Reads self.now.geom (look_of seen.now) p → Contains (sectors_of self.now p) at }
     {
         self.reads.ask(seen)
     }

@@ -1,7 +1,7 @@
 //! The calls of the tests.
 ghost use Rattle.std.specs.Prelude.{IsTrue};
 ghost use Rattle.ds_names.specs.Calls.{IsOnNames};
-ghost use Rattle.ds_plan_reads.specs.Questions.{IsReading};
+ghost use Rattle.ds_plan_reads.specs.Answers.{IsReading};
 ghost use Rattle.ds_plan_resize.specs.Answers.{IsResize};
 ghost use Rattle.ds_tree.specs.CallNames.{HasNames};
 
