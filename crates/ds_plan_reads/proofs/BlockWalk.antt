@@ -18,13 +18,13 @@ use Rattle.ds_fd.specs.declared.body.Body.{Body}
 use Rattle.ds_image.specs.Asking.{Agrees}
 use Rattle.ds_image.specs.Objects.{addresses_in, pointed_by}
 use Rattle.ds_image.specs.Parts.{Parts, part_at}
-use Rattle.ds_image.specs.Readings.{Reads}
+use Rattle.ds_image.specs.Readings.{ReadsParts}
 use Rattle.ds_image.specs.SeenValues.{SeenValue, look_of}
 use Rattle.ds_image.specs.Sound.{StandsFor}
 use Rattle.ds_image.specs.declared.asks.Ask.{Ask}
 use Rattle.ds_image.specs.declared.asks.Ask.TheVariants as asks
-use Rattle.ds_image.proofs.Listed.{block_listed_within}
-use Rattle.ds_image.proofs.Sizes.{body_is}
+use Rattle.ds_image.proofs.Ownership.Listed.{block_listed_within}
+use Rattle.ds_image.proofs.Spelling.Sizes.{body_is}
 use Rattle.ds_layout.specs.Places.{place_sector}
 use Rattle.ds_layout.specs.declared.places.Place.TheVariants as places
 use Rattle.ds_plan_base.proofs.Alike.{ptr_alike}
@@ -72,7 +72,7 @@ record HasPtr (g : Geom) (seen : SeenValue) (p : Parts) (n : ℕ) (block : PtrBl
   read : (s : Sector) × (look_of seen (place_sector g (places.PtrBlock n)) ≡ Some s)
   there : part_at p.ptrs n ≡ Some block
 
-module _ (g : Geom) (slot : ℕ) (key : Key) (MayHold : SeenValue → Parts → ℕ → Type 0) (seen : SeenValue) (p : Parts) (reads : Reads g (look_of seen) p)
+module _ (g : Geom) (slot : ℕ) (key : Key) (MayHold : SeenValue → Parts → ℕ → Type 0) (seen : SeenValue) (p : Parts) (reads : ReadsParts g (look_of seen) p)
     (b : Body) (has : HasObject g seen p key b) (file : b.kind ≡ Some kinds.File) where
   module _ (image : List Sector) (t : FileTree) (stands : StandsFor g image t) (agrees : Agrees seen image) where
     there : part_at stands.parts.bodies key.object ≡ Some b

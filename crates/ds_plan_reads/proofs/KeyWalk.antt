@@ -16,7 +16,7 @@ use Rattle.ds_image.specs.Asking.{Agrees}
 use Rattle.ds_image.specs.Locks.{keys_of, of_key}
 use Rattle.ds_image.specs.Objects.{node_by}
 use Rattle.ds_image.specs.Parts.{Parts, part_at}
-use Rattle.ds_image.specs.Readings.{Reads}
+use Rattle.ds_image.specs.Readings.{ReadsParts}
 use Rattle.ds_image.specs.SeenValues.{SeenValue, has_lock, look_of}
 use Rattle.ds_image.specs.Sound.{StandsFor}
 use Rattle.ds_image.specs.declared.asks.Ask.{Ask}
@@ -62,7 +62,7 @@ both-true : (a b : Bool) → (a && b) ≡ true → (a ≡ true) × (b ≡ true)
 both-true true b e = (refl, e)
 both-true false b e = absurd (false≢true e)
 
-module _ (g : Geom) (seen : SeenValue) (p : Parts) (reads : Reads g (look_of seen) p) (key : Key) where
+module _ (g : Geom) (seen : SeenValue) (p : Parts) (reads : ReadsParts g (look_of seen) p) (key : Key) where
   -- such an object is that of the tree
   pub body_there : (b : Body) → HasObject g seen p key b → (image : List Sector) (t : FileTree) (stands : StandsFor g image t) → Agrees seen image
       → part_at stands.parts.bodies key.object ≡ Some b

@@ -10,10 +10,10 @@ use Rattle.ds_base.specs.declared.names.Key.{Key}
 use Rattle.ds_fd.specs.declared.body.Body.{Body}
 use Rattle.ds_image.specs.Parts.{Parts, part_at}
 use Rattle.ds_image.specs.Planning.{AllAreAllowed, AllAreFew, AllKeep}
-use Rattle.ds_image.specs.Readings.{Reads}
+use Rattle.ds_image.specs.Readings.{ReadsParts}
 use Rattle.ds_image.specs.SeenValues.{SeenValue, look_of}
 use Rattle.ds_image.specs.declared.asks.Ask.TheVariants as asks
-use Rattle.ds_image.proofs.Sizes.{part_within}
+use Rattle.ds_image.proofs.Spelling.Sizes.{part_within}
 use Rattle.ds_layout.specs.Places.{place_sector}
 use Rattle.ds_layout.specs.declared.places.Place.TheVariants as places
 use Rattle.ds_plan_base.proofs.Alike.{body_alike}
@@ -24,7 +24,7 @@ use Rattle.ds_plan_reads.specs.Answers.{ReadsValue, call_of, answers_of, page_by
 use Rattle.ds_plan_reads.proofs.ReplyWalk.{MayHold, MayRead, reply_asks}
 use Rattle.ds_tree.specs.CallNames.{HasNames}
 
-asks_of : (plan : ReadsValue) (seen : SeenValue) (p : Parts) → Reads plan.geom (look_of seen) p
+asks_of : (plan : ReadsValue) (seen : SeenValue) (p : Parts) → ReadsParts plan.geom (look_of seen) p
     → PlanAsks plan.geom plan.slot (call_of plan) (MayHold plan.key) (MayRead plan.geom plan.key plan.question) seen p (answers_of plan seen p)
 asks_of plan seen p reads = reply_asks plan.geom plan.slot plan.key seen p reads plan.question
 
@@ -39,7 +39,7 @@ reads_allowed plan is names seen p reads =
     plan_allowed plan.geom plan.slot (call_of plan) (MayHold plan.key) (MayRead plan.geom plan.key plan.question) seen p (answers_of plan seen p) (asks_of plan seen p reads)
 
 -- and no sectors but the body's and one pointer block's
-pub reads_needed : (plan : ReadsValue) (seen : SeenValue) (p : Parts) (at : ℕ) → Reads plan.geom (look_of seen) p → answers_of plan seen p ≡ asks.Read at
+pub reads_needed : (plan : ReadsValue) (seen : SeenValue) (p : Parts) (at : ℕ) → ReadsParts plan.geom (look_of seen) p → answers_of plan seen p ≡ asks.Read at
     → Contains (sectors_of plan p) at
 reads_needed plan seen p at reads is =
     (subst (PlanAsks plan.geom plan.slot (call_of plan) (MayHold plan.key) (MayRead plan.geom plan.key plan.question) seen p) is (asks_of plan seen p reads)).one
@@ -50,7 +50,7 @@ alone : (x at : ℕ) (others : List ℕ) (i : ℕ) → i < length (x ∷ []) →
 alone x at others zero within is = (0, omega arith, is)
 alone x at others (suc i) within is = absurd (omega (arith, within))
 
-module _ (g : Geom) (key : Key) (page : Option ℕ) (seen next : SeenValue) (p q : Parts) (grows : Grows seen next) (reads : Reads g (look_of seen) p) (reads' : Reads g (look_of next) q) where
+module _ (g : Geom) (key : Key) (page : Option ℕ) (seen next : SeenValue) (p q : Parts) (grows : Grows seen next) (reads : ReadsParts g (look_of seen) p) (reads' : ReadsParts g (look_of next) q) where
   sectors_stay : (at : ℕ) (r : Option Body) → part_at p.bodies key.object ≡ r → Contains (place_sector g (places.Body key.object) ∷ pointers_by g r page) at
       → Contains (place_sector g (places.Body key.object) ∷ pointers_by g (part_at q.bodies key.object) page) at
   sectors_stay at None is one =

@@ -11,7 +11,7 @@ use Rattle.ds_fd.specs.declared.body.Body.{Body}
 use Rattle.ds_image.specs.Locks.{keys_of}
 use Rattle.ds_image.specs.Objects.{entries_of, subs_by}
 use Rattle.ds_image.specs.Parts.{Parts}
-use Rattle.ds_image.specs.Readings.{Reads}
+use Rattle.ds_image.specs.Readings.{ReadsParts}
 use Rattle.ds_image.specs.SeenValues.{SeenValue, look_of}
 use Rattle.ds_image.specs.declared.asks.Ask.{Ask}
 use Rattle.ds_image.specs.declared.asks.Ask.TheVariants as asks
@@ -42,7 +42,7 @@ MayHold key seen p object = object ≡ key.object
 abbrev pub MayRead : Geom → Key → Question → SeenValue → Parts → ℕ → Type 0
 MayRead g key question seen p at = Contains (sectors_by g key question p) at
 
-module _ (g : Geom) (slot : ℕ) (key : Key) (seen : SeenValue) (p : Parts) (reads : Reads g (look_of seen) p) where
+module _ (g : Geom) (slot : ℕ) (key : Key) (seen : SeenValue) (p : Parts) (reads : ReadsParts g (look_of seen) p) where
   abbrev Good : Question → Ask → Type 0
   Good question = PlanAsks g slot (call_by key question) (MayHold key) (MayRead g key question) seen p
 

@@ -3,7 +3,7 @@ ghost use Rattle.std.specs.Prelude.{◌≡◌, ◌≤◌, ◌<◌, length};
 ghost use Rattle.ds_base.specs.Geometry.{IsGeom, items_of};
 ghost use Rattle.ds_base.specs.declared.geometry.Kind.TheVariants.{Fd, Fb};
 ghost use Rattle.ds_image.specs.Parts.{Parts};
-ghost use Rattle.ds_image.specs.Readings.{Reads};
+ghost use Rattle.ds_image.specs.Readings.{ReadsParts};
 ghost use Rattle.ds_image.specs.SeenValues.{look_of};
 ghost use Rattle.ds_plan_reads.specs.Blocks.{block_in, block_known, blocks_reply, page_known};
 
@@ -21,7 +21,7 @@ pub(crate) fn page_of(geom: &Geom, seen: &Seen, file: &Body, page: u32) -> Resul
     requires geom { IsGeom geom.now }
     requires inside { file.now.object < items_of geom.now Fd }
     requires most { file.now.count ≤ 12288 }
-    ensures { (p : Parts) → Reads geom.now (look_of seen.now) p
+    ensures { (p : Parts) → ReadsParts geom.now (look_of seen.now) p
         → result ≡ page_known geom.now seen.now p file.now page }
 {
     let count = file.count as usize;
@@ -51,7 +51,7 @@ pub(crate) fn block_at(geom: &Geom, seen: &Seen, file: &Body, index: u32) -> Res
     requires geom { IsGeom geom.now }
     requires inside { file.now.object < items_of geom.now Fd }
     requires most { file.now.count ≤ 12288 }
-    ensures { (p : Parts) → Reads geom.now (look_of seen.now) p
+    ensures { (p : Parts) → ReadsParts geom.now (look_of seen.now) p
         → result ≡ block_known geom.now seen.now p file.now index }
 {
     if index >= file.count {

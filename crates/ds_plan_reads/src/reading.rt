@@ -4,7 +4,7 @@ ghost use Rattle.std.specs.List.{Contains};
 ghost use Rattle.ds_base.specs.Geometry.{IsGeom};
 ghost use Rattle.ds_fd.specs.Body.{IsBody};
 ghost use Rattle.ds_image.specs.Parts.{Parts};
-ghost use Rattle.ds_image.specs.Readings.{Reads};
+ghost use Rattle.ds_image.specs.Readings.{ReadsParts};
 ghost use Rattle.ds_image.specs.SeenValues.{look_of};
 ghost use Rattle.ds_plan_reads.specs.Answers.{IsReading, answers_of, body_of_file, call_of, info_of, known_by, sectors_of};
 
@@ -64,9 +64,9 @@ impl ObjectReads {
 
     /// What the call needs next by what it has seen, or how it ends. It reads no more than its object's body and one pointer block.
     pub fn ask(&self, seen: &Seen) -> Ask
-        ensures answer { (p : Parts) → Reads self.now.geom (look_of seen.now) p → result ≡ answers_of self.now seen.now p }
+        ensures answer { (p : Parts) → ReadsParts self.now.geom (look_of seen.now) p → result ≡ answers_of self.now seen.now p }
         ensures reads { (at : ℕ) → result ≡ Ask.Read at
-            → (p : Parts) → Reads self.now.geom (look_of seen.now) p → Contains (sectors_of self.now p) at }
+            → (p : Parts) → ReadsParts self.now.geom (look_of seen.now) p → Contains (sectors_of self.now p) at }
     {
         match self.known(seen) {
             Ok(reply) => Ask::Done(reply),
@@ -76,7 +76,7 @@ impl ObjectReads {
 
     /// The reply, or what is asked for before it is known.
     fn known(&self, seen: &Seen) -> Result<TreeReply, Stop>
-        ensures { (p : Parts) → Reads self.now.geom (look_of seen.now) p
+        ensures { (p : Parts) → ReadsParts self.now.geom (look_of seen.now) p
             → result ≡ known_by self.now.geom seen.now p self.now.key self.now.question }
     {
         let body = body_of_key(&self.geom, seen, &self.key)?;

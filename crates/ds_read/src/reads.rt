@@ -58,10 +58,10 @@ impl Plan for Reads {
 
     /// It reads no more than its object's body and one pointer block.
     fn ask(&self, seen: &Seen) -> Ask
-        ensures answer { (p : Parts) → readings.Reads self.now.geom (look_of seen.now) p
+        ensures answer { (p : Parts) → readings.ReadsParts self.now.geom (look_of seen.now) p
             → result ≡ answers_of self.now seen.now p }
         ensures reads { (at : ℕ) → result ≡ Ask.Read at
-            → (p : Parts) → readings.Reads self.now.geom (look_of seen.now) p → Contains (sectors_of self.now p) at }
+            → (p : Parts) → readings.ReadsParts self.now.geom (look_of seen.now) p → Contains (sectors_of self.now p) at }
     {
         self.reads.ask(seen)
     }
