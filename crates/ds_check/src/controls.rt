@@ -2,7 +2,7 @@
 ghost use Rattle.std.specs.Prelude.{◌≡◌, ◌<◌, IfOk, is_some, length, slice_get};
 ghost use Rattle.ds_base.specs.Decoding.{IsDecoded};
 ghost use Rattle.ds_base.specs.Geometry.{IsGeom, clusters_of, items_of};
-ghost use Rattle.ds_layout.specs.Places.{cluster_lock, total_of, IsLock};
+ghost use Rattle.ds_layout.specs.Places.{total_of, IsLock};
 ghost use Rattle.ds_image.specs.Parts.{part_at};
 ghost use Rattle.ds_image.specs.Readings.{IsReading, SpellsSlot};
 ghost use Rattle.ds_check.specs.Controls.{owners_of, SpellsId, SpellsOwner, SpellsCluster, SpellsPending, ReadsControls};
@@ -11,7 +11,7 @@ ghost use Rattle.ds_check.specs.Journals.{targets_of};
 use ds_base::{Geom, Kind, NoMemory, ObjNo, Sector, SlotNo};
 use ds_image::{header_at, index_of, sector_at, slot_at};
 use ds_jrnl::Index;
-use ds_layout::{Place, decode_fs};
+use ds_layout::{Place, cluster_lock, decode_fs};
 use ds_marks::{Journal, Owner, Slot};
 use std::alloc::Global;
 use std::marker::Model;
@@ -233,13 +233,6 @@ fn cluster_at(geom: &Geom, sectors: &[Sector], kind: Kind, number: u8) -> Option
     ensures { IsDecoded result (SpellsCluster geom.now (slice_get sectors.now) kind number) }
 {
     owner_at(geom, sectors, cluster_lock(kind, number))
-}
-
-/// The lock object that a cluster is.
-pub(crate) fn cluster_lock(kind: Kind, number: u8) -> ObjNo
-    ensures { result ≡ cluster_lock kind number }
-{
-    2048 + 8 * (kind as u32) + u32::from(number)
 }
 
 fn pending_of(

@@ -163,36 +163,3 @@ fn copy_of(name: &Name) -> Result<Name, NoMemory>
 {
     name.clone().map_err(|_| NoMemory)
 }
-
-#[cfg(test)]
-mod tests {
-    use super::*;
-    use ds_base::Key;
-    use std::test::Fail;
-
-    fn entry(name: &[u8], object: ObjNo) -> Option<Entry> {
-        let name = Name::from_bytes(name)?;
-        let key = Key { object, birth: 1 };
-        let kind = NodeKind::File;
-        Some(Entry { name, key, kind })
-    }
-
-    #[test]
-    fn tells_each_later_room_of_a_name(rt: HostRuntime) -> Result<(), Fail> {
-        let rooms = [
-            entry(b"b", 1),
-            None,
-            entry(b"a", 2),
-            entry(b"b", 3),
-            entry(b"ab", 4),
-            entry(b"a", 2),
-            entry(b"b", 1),
-            None,
-        ];
-        let mut report = Report::new(rt.alloc());
-        note_repeated_in(&mut report, rt.alloc(), 9, &rooms)?;
-        let again = [3, 5, 6].map(|room| Find::Again { object: 9, room });
-        assert_eq!(rt; report.findings(), again.as_slice());
-        Ok(())
-    }
-}

@@ -6,11 +6,11 @@ ghost use Rattle.ds_check.specs.Rows.{row, row_of_kinds};
 ghost use Rattle.ds_check.specs.Headers.{names_volume, info_form, slot_form, header_form, cluster_form, descriptor_form, unformed, is_before, is_astray, owner_finds, cluster_owner, descriptor_owner, misowned, headers_stage};
 
 use crate::breakers::note_misbroken;
-use crate::controls::{ControlsInMemory, cluster_count, cluster_lock, descriptor_count};
+use crate::controls::{ControlsInMemory, cluster_count, descriptor_count};
 use crate::findings::Find;
 use crate::reports::Report;
 use ds_base::{Gen, Geom, Kind, NoMemory, ObjNo, SlotNo};
-use ds_layout::{Place, sector_of};
+use ds_layout::{Place, cluster_lock, sector_of};
 use ds_marks::{Owner, Slot, SlotState};
 use uuid::Uuid;
 

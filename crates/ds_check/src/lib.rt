@@ -6,22 +6,13 @@
 
 mod addresses;
 mod breakers;
-#[cfg(test)]
-mod changes_for_tests;
 mod checking;
 mod controls;
 mod entries;
-#[cfg(test)]
-mod finding_tests;
 mod findings;
 mod fronts;
-mod growing;
 mod headers;
-#[cfg(test)]
-mod journal_tests;
 mod journals;
-#[cfg(test)]
-mod large_file_tests;
 mod listed;
 mod marking;
 mod metadata;
@@ -29,10 +20,6 @@ mod names;
 mod reports;
 mod rooms;
 mod sharing;
-#[cfg(test)]
-mod small_volume;
-#[cfg(test)]
-mod stage_tests;
 mod texts;
 mod unreached;
 mod uses;

@@ -16,7 +16,7 @@ use Rattle.ds_layout.proofs.SamePlace.{same_place}
 use Rattle.ds_image.specs.Guards.{least_lister, lister_or, guard_of, IsGuard}
 use Rattle.ds_image.specs.Listers.{listed_of, listed_lists}
 use Rattle.ds_image.specs.Looks.{Look, AreBlocks}
-use Rattle.ds_image.specs.Metadata.{IsMetadata, is_metadata}
+use Rattle.ds_layout.specs.Metadata.{IsMetadata, is_metadata}
 use Rattle.ds_image.specs.Parts.{Parts, part_at}
 use Rattle.ds_image.specs.Readings.{ReadsParts}
 use Rattle.ds_image.proofs.Spelling.Readings.{parts_there}

@@ -1,9 +1,13 @@
+pub mod Bits
 pub mod FileTrees
 pub mod Guarding
 pub mod Journaling
+pub mod MarksByCluster
 pub mod NewVolumes
 pub mod Ownership
 pub mod Parenthood
 pub mod Reaching
+pub mod SameSectors
+pub mod SectorGuards
 pub mod Seeing
 pub mod Spelling

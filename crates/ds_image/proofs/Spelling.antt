@@ -1,7 +1,6 @@
 -- What sectors spell: parts, and what their descriptors say.
 pub mod BadSectors
 pub mod Decoded
-pub mod Fronts
 pub mod ObjectSound
 pub mod PartsRead
 pub mod Places

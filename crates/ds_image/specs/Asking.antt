@@ -14,14 +14,14 @@ use Rattle.ds_tree.specs.declared.calls.CallOf.{CallOf}
 use Rattle.ds_tree.specs.declared.calls.CallOf.TheVariants.{Mkdir, Create}
 use Rattle.ds_tree.specs.declared.calls.TreeReply.{TreeReply}
 use Rattle.ds_tree.specs.declared.calls.TreeReply.TheVariants.{AtBlock}
-use Rattle.ds_image.specs.Guards.{IsGuard}
+use Rattle.ds_image.specs.Guards.{GuardedBy}
 use Rattle.ds_image.specs.Locks.{IsClear}
 use Rattle.ds_image.specs.Logical.{laid_over}
 use Rattle.ds_image.specs.Looks.{IsBlock}
-use Rattle.ds_image.specs.Metadata.{IsMetadata}
+use Rattle.ds_layout.specs.Metadata.{IsMetadata}
 use Rattle.ds_image.specs.Parts.{Parts, part_at}
 use Rattle.ds_image.specs.Pending.{Pair}
-use Rattle.ds_image.specs.SeenValues.{SeenValue, has_lock, look_of, with_lock, with_sector}
+use Rattle.ds_image.specs.SeenValues.{SeenValue, HoldsLock, has_lock, look_of, with_lock, with_sector}
 use Rattle.ds_image.specs.Sound.{StandsFor}
 use Rattle.ds_image.specs.declared.asks.Ask.{Ask}
 use Rattle.ds_image.specs.declared.asks.Ask.TheVariants.{Lock, Read, Odd, Worn, Done, Change}
@@ -31,10 +31,8 @@ abbrev pub Agrees : SeenValue → List Sector → Type 0
 Agrees seen image = (at : ℕ) (s : Sector) → look_of seen at ≡ Some s → slice_get image at ≡ Some s
 
 -- the call holds the lock object that protects the sector in the image
-pub record IsGuarded (g : Geom) (seen : SeenValue) (image : List Sector) (at : ℕ) : Type 0 where
-  pub object : ℕ
-  pub guards : IsGuard g (slice_get image) at object
-  pub held : has_lock seen object ≡ true
+abbrev pub IsGuarded : Geom → SeenValue → List Sector → ℕ → Type 0
+IsGuarded g seen image = GuardedBy g (slice_get image) (HoldsLock seen)
 
 -- 1 to 31 sectors of metadata, each number below the next
 pub record AreTargets (g : Geom) (targets : List ℕ) : Type 0 where

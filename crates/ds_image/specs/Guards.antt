@@ -37,3 +37,9 @@ pub record IsGuard (g : Geom) (look : Look) (at object : ℕ) : Type 0 where
   pub is_place : IsPlace g place
   pub here : place_sector g place ≡ at
   pub guards : guard_of g parts place ≡ Some object
+
+-- the sector is protected by a lock object of which this holds
+pub record GuardedBy (g : Geom) (look : Look) (Held : ℕ → Type 0) (at : ℕ) : Type 0 where
+  pub object : ℕ
+  pub guards : IsGuard g look at object
+  pub held : Held object

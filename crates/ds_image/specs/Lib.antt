@@ -12,7 +12,6 @@ pub mod Listings
 pub mod Locks
 pub mod Logical
 pub mod Looks
-pub mod Metadata
 pub mod NameCounts
 pub mod Objects
 pub mod Owned

@@ -3,7 +3,7 @@ use Rattle.std.specs.Prelude.{◌≡◌, ℕ, ◌<◌, List, [], length, fold, s
 use Rattle.std.specs.List.{flat_map}
 use Rattle.ds_base.specs.declared.geometry.Geom.{Geom}
 use Rattle.ds_base.specs.declared.sectors.Sector.{Sector}
-use Rattle.ds_image.specs.Metadata.{front_of}
+use Rattle.ds_layout.specs.Metadata.{front_of}
 use Rattle.ds_image.specs.Pending.{Pair, ArePending}
 
 -- the sectors with pairs laid over them, one after another

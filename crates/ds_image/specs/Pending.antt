@@ -9,7 +9,7 @@ use Rattle.ds_layout.specs.declared.places.Place.TheVariants as places
 use Rattle.ds_marks.specs.declared.slot.Slot.{Slot}
 use Rattle.ds_marks.specs.declared.slot.Journal.{Journal}
 use Rattle.ds_marks.specs.declared.slot.Journal.TheVariants.{Idle, Committed}
-use Rattle.ds_image.specs.Metadata.{IsMetadata}
+use Rattle.ds_layout.specs.Metadata.{IsMetadata}
 use Rattle.ds_image.specs.Readings.{SpellsSlot, SpellsIndex}
 
 -- a sector's number, and what the sector is to hold

@@ -3,7 +3,7 @@ use Rattle.std.specs.Prelude.{ℕ, suc, List, [], ◌∷◌, Option, None, Some}
 use Rattle.ds_base.specs.declared.geometry.Geom.{Geom}
 use Rattle.ds_base.specs.declared.sectors.Sector.{Sector}
 use Rattle.ds_image.specs.Looks.{Look}
-use Rattle.ds_image.specs.Metadata.{front_of}
+use Rattle.ds_layout.specs.Metadata.{front_of}
 
 -- this sector, unless another is there
 abbrev pub or_sector : Option Sector → Sector → Sector

@@ -1,5 +1,5 @@
 -- What contracts see of a `Seen`.
-use Rattle.std.specs.Prelude.{ℕ, ◌≤◌, ◌==◌, if◌then◌else◌, Bool, List, [], ◌∷◌, ◌++◌, length, Option, Some, None}
+use Rattle.std.specs.Prelude.{◌≡◌, ℕ, ◌≤◌, ◌==◌, if◌then◌else◌, Bool, true, List, [], ◌∷◌, ◌++◌, length, Option, Some, None}
 use Rattle.std.specs.List.{list_any}
 use Rattle.ds_base.specs.declared.sectors.Sector.{Sector}
 use Rattle.ds_image.specs.Looks.{Look, AreBlocks}
@@ -13,6 +13,10 @@ pub record SeenValue : Type 0 where
 -- whether the call holds the object
 abbrev pub has_lock : SeenValue → ℕ → Bool
 has_lock seen object = list_any (λ x. x == object) seen.locks
+
+-- the call holds this lock object
+abbrev pub HoldsLock : SeenValue → ℕ → Type 0
+HoldsLock seen object = has_lock seen object ≡ true
 
 -- the sector with a number, where it is among the pairs
 abbrev pub sector_in : List Pair → ℕ → Option Sector

@@ -6,7 +6,7 @@ ghost use Rattle.ds_base.specs.Geometry.{IsGeom, items_of, per_cluster};
 ghost use Rattle.ds_layout.specs.Places.{cluster_lock, IsPlace};
 ghost use Rattle.ds_image.specs.Guards.{lister_or, guard_of, IsGuard};
 ghost use Rattle.ds_image.specs.Listers.{listed_of, listed_lists};
-ghost use Rattle.ds_image.specs.Metadata.{IsMetadata};
+ghost use Rattle.ds_layout.specs.Metadata.{IsMetadata};
 ghost use Rattle.ds_image.specs.Parts.{Parts, part_at};
 ghost use Rattle.ds_image.specs.Readings.{SpellsBody, ReadsParts};
 
@@ -15,7 +15,7 @@ use crate::listings::{ptrs_of, subs_of};
 use crate::stores::Store;
 use ds_base::{Geom, Kind, NodeKind, ObjNo, SectorNo};
 use ds_fd::Body;
-use ds_layout::{Place, place_of, sector_of};
+use ds_layout::{Place, cluster_lock, place_of, sector_of};
 
 /// The lock object that protects a sector: a body's descriptor, a bitmap's cluster, and for a sub-block or a pointer block
 /// the least descriptor that lists it, or else its cluster. `None` where the sector is none of these.
@@ -34,7 +34,7 @@ fn guard_of<S: Store>(image: &Image<S>, place: &Place) -> Option<ObjNo>
 {
     match *place {
         Place::Body(object) => Some(object),
-        Place::Bitmap { kind, cluster } => Some(cluster_lock(kind, u32::from(cluster))),
+        Place::Bitmap { kind, cluster } => Some(cluster_lock(kind, cluster)),
         Place::SubBlock(n) => {
             let cluster = lock_of_item(image.geom(), Kind::Sb, n);
             Some(lister_or(image, NodeKind::Dir, n, cluster))
@@ -54,15 +54,8 @@ fn lock_of_item(geom: &Geom, kind: Kind, n: u32) -> ObjNo
     requires inside { n < items_of geom.now kind }
     ensures { result ≡ cluster_lock kind (n / per_cluster geom.now kind) }
 {
-    cluster_lock(kind, n / u32::from(geom.items[kind as usize]))
-}
-
-/// The lock object that a cluster is.
-fn cluster_lock(kind: Kind, cluster: u32) -> ObjNo
-    requires { cluster ≤ 30720 }
-    ensures { result ≡ cluster_lock kind cluster }
-{
-    2048 + 8 * (kind as u32) + cluster
+    let cluster = n / u32::from(geom.items[kind as usize]);
+    cluster_lock(kind, cluster as u8)
 }
 
 /// The least descriptor of the kind that lists the item, or else this cluster.

@@ -5,7 +5,7 @@ ghost use Rattle.std.specs.Ordering.{nat_cmp};
 ghost use Rattle.ds_base.specs.Geometry.{IsGeom};
 ghost use Rattle.ds_image.specs.ImageValues.{IsImage};
 ghost use Rattle.ds_layout.specs.Places.{IsPlace, place_sector, blocks_at, total_of};
-ghost use Rattle.ds_image.specs.Metadata.{IsMetadata, is_metadata};
+ghost use Rattle.ds_layout.specs.Metadata.{IsMetadata, is_metadata};
 ghost use Rattle.ds_image.specs.Replaced.{image_of};
 
 use crate::stores::Store;
@@ -73,13 +73,13 @@ impl<'a, S: Store> Image<'a, S> {
     }
 
     /// The sector of a body, a bitmap, a sub-block or a pointer block; `None` where the sector is none of these.
-    #[tactic(auto, using(crate::proofs::Spelling::Fronts::metadata_within))]
+    #[tactic(auto, using(ds_layout::proofs::MetadataPlaces::metadata_within))]
     pub fn sector(&self, at: SectorNo) -> Option<Sector>
         ensures { MatchOption result (¬ IsMetadata self.now.geom at)
             (λ s. IsMetadata self.now.geom at × (slice_get self.now.sectors at ≡ Some s)) }
     {
         let place = place_of(&self.geom, at)?;
-        if !is_metadata(&place) {
+        if !place.is_metadata() {
             return None;
         }
         Some(self.held(at))
@@ -95,7 +95,7 @@ impl<'a, S: Store> Image<'a, S> {
     }
 
     /// The sector of a body, a bitmap, a sub-block or a pointer block, by its place.
-    #[tactic(auto, using(crate::proofs::Spelling::Fronts::metadata_within))]
+    #[tactic(auto, using(ds_layout::proofs::MetadataPlaces::metadata_within))]
     pub(crate) fn sector_at(&self, place: &Place) -> Sector
         requires inside { IsPlace self.now.geom place.now }
         requires metadata { is_metadata place.now ≡ true }
@@ -114,14 +114,4 @@ impl<'a, S: Store> Image<'a, S> {
             None => self.store.sector(at),
         }
     }
-}
-
-/// Whether a place is that of a body, a bitmap, a sub-block or a pointer block.
-pub(crate) fn is_metadata(place: &Place) -> bool
-    ensures { result ≡ is_metadata place.now }
-{
-    matches!(
-        place,
-        Place::Body(_) | Place::Bitmap { .. } | Place::SubBlock(_) | Place::PtrBlock(_)
-    )
 }

@@ -4,15 +4,11 @@
 mod asks;
 mod bad_sectors;
 mod building;
-#[cfg(test)]
-mod format_tests;
 mod formatting;
 mod guards;
 mod images;
 mod listings;
 mod logical;
-#[cfg(test)]
-mod logical_tests;
 mod marks;
 mod name_counts;
 mod owners;
@@ -25,8 +21,6 @@ mod seen;
 mod sound_objects;
 mod soundness;
 mod stores;
-#[cfg(test)]
-mod tree_tests;
 mod trees;
 mod users;
 
@@ -42,7 +36,7 @@ pub use owners::bits_in;
 pub use parents::reached;
 pub use parts::PartsInMemory;
 pub use plans::Plan;
-pub use reads::{header_at, index_of, sector_at, slot_at};
+pub use reads::{header_at, index_at, index_of, sector_at, slot_at};
 pub use seen::Seen;
 pub use stores::Store;
 pub use trees::read_tree;

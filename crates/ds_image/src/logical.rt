@@ -10,7 +10,7 @@ ghost use Rattle.ds_image.specs.Faults.{IsFaultOf};
 ghost use Rattle.ds_image.specs.Laying.{Lays, IsCommitted, ArePendingBelow};
 ghost use Rattle.ds_image.specs.Logical.{IsLogical};
 ghost use Rattle.ds_image.specs.Looks.{AreBlocks, IsBlock};
-ghost use Rattle.ds_image.specs.Metadata.{front_of};
+ghost use Rattle.ds_layout.specs.Metadata.{front_of};
 ghost use Rattle.ds_image.specs.Pending.{ArePending, AreJournalled};
 ghost use Rattle.ds_image.specs.Replaced.{image_of};
 

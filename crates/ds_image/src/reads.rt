@@ -4,15 +4,14 @@ ghost use Rattle.ds_base.specs.Decoding.{IsDecoded};
 ghost use Rattle.ds_base.specs.Geometry.{IsGeom};
 ghost use Rattle.ds_jrnl.specs.declared.index.Index.{Index};
 ghost use Rattle.ds_layout.specs.Places.{total_of, IsLock, IsPlace, place_sector};
-ghost use Rattle.ds_image.specs.Metadata.{IsMetadata};
+ghost use Rattle.ds_layout.specs.Metadata.{IsMetadata};
 ghost use Rattle.ds_image.specs.Pending.{IsIndexOf};
 ghost use Rattle.ds_image.specs.Readings.{SpellsSlot, SpellsHeader, SpellsIndex};
 
-use crate::images::is_metadata;
 use crate::stores::Store;
 use ds_base::{Gen, Geom, ObjNo, Sector, SectorNo, SlotNo};
 use ds_jrnl::Index;
-use ds_layout::{Place, place_of, sector_of};
+use ds_layout::{Place, is_metadata_sector, sector_of};
 use ds_marks::{Header, Slot};
 
 /// The sector of a place.
@@ -49,9 +48,9 @@ pub fn header_at<S: Store>(geom: &Geom, store: &S, object: ObjNo) -> Option<Head
     Header::decode(object, &sector)
 }
 
-/// The index that the last sector of a slot's journal spells.
+/// The index that the last sector of a slot's journal spells; `None` where it spells none.
 #[tactic(auto, using(crate::proofs::Spelling::Decoded::spelled_at))]
-fn index_at<S: Store>(geom: &Geom, store: &S, slot: SlotNo) -> Option<Index>
+pub fn index_at<S: Store>(geom: &Geom, store: &S, slot: SlotNo) -> Option<Index>
     requires geom { IsGeom geom.now }
     requires size { length (S.sectors store.now) ≡ total_of geom.now }
     requires inside { slot < geom.now.slots }
@@ -99,15 +98,4 @@ fn are_metadata(geom: &Geom, targets: &[u32]) -> bool
         }
     }
     true
-}
-
-/// Whether a sector is that of a body, a bitmap, a sub-block or a pointer block.
-fn is_metadata_sector(geom: &Geom, at: SectorNo) -> bool
-    requires { IsGeom geom.now }
-    ensures { IsTrue result ↔ IsMetadata geom.now at }
-{
-    match place_of(geom, at) {
-        Some(place) => is_metadata(&place),
-        None => false,
-    }
 }

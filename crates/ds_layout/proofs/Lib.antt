@@ -1,4 +1,5 @@
 pub mod Bounds
 pub mod FirstSectors
+pub mod MetadataPlaces
 pub mod Readings
 pub mod SamePlace

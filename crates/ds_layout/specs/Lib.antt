@@ -1,3 +1,4 @@
+pub mod Metadata
 pub mod Places
 pub mod Regions
 pub mod Volume

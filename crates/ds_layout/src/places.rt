@@ -243,6 +243,13 @@ fn lock_of_cluster(geom: &Geom, kind: Kind, cluster: u8) -> ObjNo
     ensures inside { IsPlace geom.now (Place.Header result) }
     ensures here { header_sector geom.now result ≡ cluster_at geom.now kind cluster }
 {
+    cluster_lock(kind, cluster)
+}
+
+/// The lock object that a cluster is.
+pub fn cluster_lock(kind: Kind, cluster: u8) -> ObjNo
+    ensures { result ≡ cluster_lock kind cluster }
+{
     2048 + 8 * (kind as u32) + u32::from(cluster)
 }
 

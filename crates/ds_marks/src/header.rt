@@ -2,6 +2,7 @@
 ghost use Rattle.std.specs.Prelude.{◌≡◌, ◌≤◌, ◌↔◌, ℕ, Some, IfSome, IsTrue};
 ghost use Rattle.ds_base.specs.Decoding.{IsDecoded};
 ghost use Rattle.ds_marks.specs.declared.header.Header.{Header};
+ghost use Rattle.ds_marks.specs.HeaderIn.{header_in, header_if_of};
 ghost use Rattle.ds_marks.specs.Header.{owned_code, written_owner, IsOwner, HasWidths, InRanges, IsHeader, header_bytes};
 
 use crate::header_parts::HeaderParts;
@@ -57,6 +58,22 @@ impl Header {
 
     /// The header that an object's sector spells; `None` where it spells none of that object.
     pub fn decode(object: ObjNo, sector: &Sector) -> Option<Header>
+        ensures spelled { IsDecoded result (λ h. (h.object ≡ object) × IsHeader h × (sector.now.bytes ≡ header_bytes h)) }
+        ensures value { result ≡ header_if_of object (header_in sector.now.bytes) }
+    {
+        Header::of_sector(object, *sector)
+    }
+
+    fn of_sector(object: ObjNo, sector: Sector) -> Option<Header>
+        ensures spelled { IsDecoded result (λ h. (h.object ≡ object) × IsHeader h × (sector.bytes ≡ header_bytes h)) }
+        ensures value { result ≡ header_if_of object (header_in sector.bytes) }
+    {
+        // A read of the bytes shows that there are 512, each below 256.
+        let _bytes = &sector.bytes;
+        Header::spelled(object, &sector)
+    }
+
+    fn spelled(object: ObjNo, sector: &Sector) -> Option<Header>
         ensures { IsDecoded result (λ h. (h.object ≡ object) × IsHeader h × (sector.now.bytes ≡ header_bytes h)) }
     {
         let header = Header::named(sector)?;

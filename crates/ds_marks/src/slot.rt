@@ -2,6 +2,7 @@
 ghost use Rattle.std.specs.Prelude.{◌≡◌, ◌<◌, ◌≤◌, ◌^◌, ◌↔◌, ℕ, Some, IfSome, IsTrue};
 ghost use Rattle.ds_base.specs.Decoding.{IsDecoded};
 ghost use Rattle.ds_marks.specs.declared.slot.Slot.{Slot};
+ghost use Rattle.ds_marks.specs.SlotIn.{slot_in};
 ghost use Rattle.ds_marks.specs.Slot.{
   state_code,
   breaker_of,
@@ -133,6 +134,22 @@ impl Slot {
 
     /// The slot that the sector of this number spells; `None` where it spells none.
     pub fn decode(number: SlotNo, sector: &Sector) -> Option<Slot>
+        ensures spelled { IsDecoded result (λ s. IsSlot s × (sector.now.bytes ≡ slot_bytes number s)) }
+        ensures value { result ≡ slot_in number sector.now.bytes }
+    {
+        Slot::of_sector(number, *sector)
+    }
+
+    fn of_sector(number: SlotNo, sector: Sector) -> Option<Slot>
+        ensures spelled { IsDecoded result (λ s. IsSlot s × (sector.bytes ≡ slot_bytes number s)) }
+        ensures value { result ≡ slot_in number sector.bytes }
+    {
+        // A read of the bytes shows that there are 512, each below 256.
+        let _bytes = &sector.bytes;
+        Slot::spelled(number, &sector)
+    }
+
+    fn spelled(number: SlotNo, sector: &Sector) -> Option<Slot>
         ensures { IsDecoded result (λ s. IsSlot s × (sector.now.bytes ≡ slot_bytes number s)) }
     {
         let slot = Slot::named(sector)?;

@@ -9,16 +9,17 @@ use Rattle.ds_base.specs.declared.names.Key.{Key}
 use Rattle.ds_base.specs.declared.sectors.Sector.{Sector}
 use Rattle.ds_image.specs.Asking.{Agrees, HasForm, IsFew, IsWorn, Keeps, Reached, Start, Locked, Given, IsRight}
 use Rattle.ds_image.specs.ImageValues.{IsImage}
-use Rattle.ds_image.specs.Metadata.{IsMetadata}
+use Rattle.ds_layout.specs.Metadata.{IsMetadata}
 use Rattle.ds_image.specs.Parts.{Parts, part_at}
 use Rattle.ds_image.specs.Planning.{Answers, Asks, AllKeep, AllAreFew}
+use Rattle.ds_image.specs.Reaching.{AllGuarded}
 use Rattle.ds_image.specs.Readings.{ReadsParts}
 use Rattle.ds_image.specs.SeenValues.{SeenValue, IsSeen, has_lock, look_of, sector_in, with_lock, with_sector}
 use Rattle.ds_image.specs.Sound.{StandsFor}
 use Rattle.ds_image.specs.declared.asks.Ask.{Ask}
 use Rattle.ds_image.specs.declared.asks.Ask.TheVariants.{Lock, Read, Odd, Worn, Done, Change}
 use Rattle.ds_image.proofs.Spelling.Sizes.{part_within}
-use Rattle.ds_image.proofs.Reaching.{all-few, all-fresh}
+use Rattle.ds_image.proofs.Reaching.{all-few, all-fresh, all-guarded}
 use Rattle.ds_image.specs.Objects.{node_by}
 use Rattle.ds_image.proofs.Seeing.{sector_in-append, seen_read}
 use Rattle.ds_tree.specs.CallNames.{HasNames}
@@ -80,6 +81,9 @@ module _ (g : Geom) (call : CallOf Key) (answers : Answers) (image : List Sector
     reached _ _ Begun = Start [] (omega arith)
     reached _ _ (WithLock seen asked object before asks) = Locked seen object (reached seen asked before) asks
     reached _ _ (WithSector seen asked at s before asks there) = Given seen at s (reached seen asked before) asks (is.is_image.blocks at s there)
+
+    pub guarded : (seen : SeenValue) (asked : List Asked) → HasAsked g answers image seen asked → AllGuarded g seen
+    guarded seen asked has = all-guarded g call answers is.keeps seen (reached seen asked has)
 
     few_of : (seen : SeenValue) (asked : List Asked) (ask : Ask) → HasAsked g answers image seen asked → Asks g answers seen ask → IsFew seen ask
     few_of seen asked ask has asks = all-few g answers is.few seen ask (reached seen asked has) asks

@@ -7,6 +7,7 @@ use Rattle.ds_image.specs.Asking.{makes_object}
 use Rattle.ds_image.specs.Logical.{laid_over}
 use Rattle.ds_image.specs.Pending.{Pair}
 use Rattle.ds_image.specs.Planning.{Answers, Asks}
+use Rattle.ds_image.specs.Reaching.{AllGuarded}
 use Rattle.ds_image.specs.SeenValues.{SeenValue, with_lock, with_sector}
 use Rattle.ds_image.specs.Sound.{StandsFor}
 use Rattle.ds_image.specs.declared.asks.Ask.{Ask}
@@ -32,11 +33,12 @@ IsEnd (Lock object) = ⊥
 IsEnd (Read at) = ⊥
 IsEnd _ = ⊤
 
--- the call asked for these, and ended so
+-- the call asked for these, and ended so; it held the guard of all that it had read
 pub record IsCourse (g : Geom) (answers : Answers) (image : List Sector) (asked : List Asked) (end : Ask) : Type 0 where
   pub seen : SeenValue
   pub has_asked : HasAsked g answers image seen asked
   pub answered : Asks g answers seen end
+  pub guarded : AllGuarded g seen
   pub ended : IsEnd end
 
 -- the call, which is not refused, makes this tree of t, where a new object has the next life of its number, and these pairs make an

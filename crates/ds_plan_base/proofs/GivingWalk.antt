@@ -11,7 +11,7 @@ use Rattle.ds_base.specs.declared.geometry.Kind.{Kind}
 use Rattle.ds_base.specs.declared.names.Key.{Key}
 use Rattle.ds_base.specs.declared.sectors.Sector.{Sector}
 use Rattle.ds_bitmap.specs.Bits.{Bitmap}
-use Rattle.ds_plan_laws_new.proofs.Bits.{bits-get}
+use Rattle.ds_image.proofs.Bits.{bits-get}
 use Rattle.ds_image.specs.Asking.{Agrees}
 use Rattle.ds_image.specs.Owns.{bit}
 use Rattle.ds_image.specs.Parts.{Parts, part_at, maps_of, bits_in}

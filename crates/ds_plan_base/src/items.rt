@@ -5,15 +5,14 @@ ghost use Rattle.ds_bitmap.specs.Bits.{IsBits};
 ghost use Rattle.ds_image.specs.Parts.{Parts};
 ghost use Rattle.ds_image.specs.Readings.{ReadsParts};
 ghost use Rattle.ds_image.specs.SeenValues.{look_of};
-ghost use Rattle.ds_layout.specs.Places.{cluster_lock};
 ghost use Rattle.ds_plan_base.specs.Items.{IsFreeItem, first_clear, free_item, map_read, map_seen, number_of, wanted_item};
 ghost use Rattle.ds_image.specs.Locks.{cluster_tried};
 
 use crate::stops::{Ending, Stop};
-use ds_base::{Geom, Kind, ObjNo, SlotNo};
+use ds_base::{Geom, Kind, SlotNo};
 use ds_bitmap::Bits;
 use ds_image::Seen;
-use ds_layout::{Place, sector_of};
+use ds_layout::{Place, cluster_lock, sector_of};
 
 /// A free item: its cluster, its place there, and the cluster's bitmap.
 #[derive(Drop)]
@@ -90,13 +89,6 @@ pub fn map_read(geom: &Geom, seen: &Seen, kind: Kind, cluster: u8) -> Result<Bit
         Some(map) => Ok(map),
         None => Err(Stop::Odd(at)),
     }
-}
-
-/// The lock object that a cluster is.
-pub fn cluster_lock(kind: Kind, cluster: u8) -> ObjNo
-    ensures { result ≡ cluster_lock kind cluster }
-{
-    2048 + 8 * (kind as u32) + u32::from(cluster)
 }
 
 /// The number of clusters of a kind.

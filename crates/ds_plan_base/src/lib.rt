@@ -15,9 +15,7 @@ mod stops;
 pub use bodies::{body_of_key, body_seen, dir_of_key, sub_block};
 pub use entries::{Found, Named, find, found_among, named_among, subs_of, wanted_entry};
 pub use giving::give_up;
-pub use items::{
-    FreeItem, cluster_lock, cluster_tried, clusters, map_read, map_seen, number_of, wanted_item,
-};
+pub use items::{FreeItem, cluster_tried, clusters, map_read, map_seen, number_of, wanted_item};
 pub use names::{copy_of, name_of};
 pub use pairs::{
     block_alone, block_emptied, block_filled, body_grown, body_pair, map_pair, sub_pair,

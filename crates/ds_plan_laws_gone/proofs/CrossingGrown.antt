@@ -26,7 +26,7 @@ use Rattle.ds_image.proofs.Spelling.Sizes.{part_within, body_is}
 use Rattle.ds_image.proofs.Spelling.SoundParts.{each_kind, list-is, objects-of}
 use Rattle.ds_plan_laws_new.specs.Entering.{subs_in}
 use Rattle.ds_plan_laws_new.specs.Puts.{IsPut}
-use Rattle.ds_plan_laws_new.proofs.Bits.{bits-set, bits-get, all-put, bit-within}
+use Rattle.ds_image.proofs.Bits.{bits-set, bits-get, all-put, bit-within}
 use Rattle.ds_plan_laws_new.proofs.Listed.{listed-by, listed-in, listed-nowhere}
 use Rattle.ds_plan_laws_new.proofs.Puts.{in_use}
 use Rattle.ds_plan_laws_new.proofs.Rooms.{used_in, used-added}

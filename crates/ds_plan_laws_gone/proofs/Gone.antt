@@ -26,7 +26,7 @@ use Rattle.ds_image.proofs.Spelling.SoundParts.{all-from_at, list-is, sound-from
 use Rattle.ds_image.proofs.FileTrees.TreeParts.{name-from_entry}
 use Rattle.ds_plan_laws_new.specs.Entering.{subs_in}
 use Rattle.ds_plan_laws_new.specs.Puts.{IsPut}
-use Rattle.ds_plan_laws_new.proofs.Bits.{all-put}
+use Rattle.ds_image.proofs.Bits.{all-put}
 use Rattle.ds_plan_laws_new.proofs.Names.{by_name, apart-taken, absent-taken}
 use Rattle.ds_plan_laws_new.proofs.NewBodies.{ListsNothing, unused-lists_nothing, blocks-same, tail-same}
 use Rattle.ds_plan_laws_new.proofs.Puts.{put-kept, put-length}

@@ -17,7 +17,7 @@ use Rattle.ds_image.proofs.Ownership.Owning.{owns-alike}
 use Rattle.ds_image.proofs.Spelling.Sizes.{part_within}
 use Rattle.ds_image.proofs.Spelling.SoundParts.{all-from_at, list-is, sound-from, objects-of}
 use Rattle.ds_plan_laws_new.specs.Entering.{subs_in}
-use Rattle.ds_plan_laws_new.proofs.Bits.{all-put}
+use Rattle.ds_image.proofs.Bits.{all-put}
 use Rattle.ds_plan_laws_new.proofs.NewBodies.{dir-lists_none, blocks-same, tail-same}
 use Rattle.ds_plan_laws_gone.specs.Leaving.{HasDir}
 

@@ -18,7 +18,7 @@ use Rattle.ds_image.specs.Readings.{ReadsParts}
 use Rattle.ds_image.proofs.Ownership.Listed.{bits_length}
 use Rattle.ds_image.proofs.Spelling.Places.{marked-within}
 use Rattle.ds_plan_laws_new.specs.Changed.{with_maps}
-use Rattle.ds_plan_laws_new.proofs.Bits.{all-put}
+use Rattle.ds_image.proofs.Bits.{all-put}
 use Rattle.ds_plan_laws_new.proofs.Frames.{reads-map}
 use Rattle.ds_plan_laws_new.proofs.Spelling.{map-at}
 use Rattle.ds_plan_laws_gone.specs.MapWrites.{MapWrite, map_pairs, with_map, with_all_maps, BitChange, ChangesMap, ChangesMaps, IsUnwritten, AreWrittenOnce, IsClearedOf, IsReplacedBy, ClearsMaps}

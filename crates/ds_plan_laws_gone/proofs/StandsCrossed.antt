@@ -34,10 +34,10 @@ use Rattle.ds_image.specs.Sound.{StandsFor, IsSound, sub_lists}
 use Rattle.ds_image.proofs.Journaling.LaidOver.{whole-laid_over}
 use Rattle.ds_image.proofs.Spelling.Sizes.{body_is}
 use Rattle.ds_plan_laws_new.specs.Entering.{subs_in, FillsRoom}
-use Rattle.ds_plan_laws_new.specs.Guarded.{GuardedBy}
+use Rattle.ds_image.specs.Guards.{GuardedBy}
 use Rattle.ds_plan_laws_new.specs.Making.{Leaves}
 use Rattle.ds_plan_laws_new.proofs.Frames.{reads-sub}
-use Rattle.ds_plan_laws_new.proofs.Guards.{guard-sub_listed}
+use Rattle.ds_image.proofs.SectorGuards.{guard-sub_listed}
 use Rattle.ds_plan_laws_new.proofs.Listed.{listed-in}
 use Rattle.ds_plan_laws_new.proofs.Spelling.{sub-at}
 use Rattle.ds_plan_laws_new.proofs.StandsGrown.{two-laid}

@@ -39,12 +39,12 @@ use Rattle.ds_image.proofs.Journaling.LaidOver.{whole-laid_over}
 use Rattle.ds_image.proofs.Spelling.Places.{at-append_right}
 use Rattle.ds_image.proofs.Spelling.SoundParts.{objects-of}
 use Rattle.ds_plan_laws_new.specs.Entering.{subs_in}
-use Rattle.ds_plan_laws_new.specs.Guarded.{GuardedBy}
+use Rattle.ds_image.specs.Guards.{GuardedBy}
 use Rattle.ds_plan_laws_new.specs.Making.{Leaves}
-use Rattle.ds_plan_laws_new.proofs.Bits.{bits-at, bit-within}
+use Rattle.ds_image.proofs.Bits.{bits-at, bit-within}
 use Rattle.ds_plan_laws_new.proofs.Frames.{reads-body, reads-map, reads-sub}
 use Rattle.ds_plan_laws_new.proofs.FreeItems.{free-some}
-use Rattle.ds_plan_laws_new.proofs.Guards.{guard-body, guard-map, guard-sub_listed, guard-sub_unlisted}
+use Rattle.ds_image.proofs.SectorGuards.{guard-body, guard-map, guard-sub_listed, guard-sub_unlisted}
 use Rattle.ds_plan_laws_new.proofs.Listed.{listed-in}
 use Rattle.ds_plan_laws_new.proofs.Names.{by_name-length}
 use Rattle.ds_plan_laws_new.proofs.Spelling.{alone-is_sub, body-at, map-at, set-bits, sub-at}

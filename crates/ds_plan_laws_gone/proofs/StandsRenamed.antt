@@ -34,13 +34,14 @@ use Rattle.ds_image.proofs.Spelling.Sizes.{part_within}
 use Rattle.ds_image.proofs.Spelling.SoundParts.{objects-of}
 use Rattle.ds_image.proofs.FileTrees.TreeParts.{object-is}
 use Rattle.ds_plan_laws_new.specs.Entering.{subs_in}
-use Rattle.ds_plan_laws_new.specs.Guarded.{GuardedBy}
+use Rattle.ds_image.specs.Guards.{GuardedBy}
 use Rattle.ds_plan_laws_new.specs.Making.{Leaves}
 use Rattle.ds_plan_laws_new.specs.Puts.{IsPut}
 use Rattle.ds_plan_laws_new.proofs.EnteredTrees.{dir-object}
-use Rattle.ds_plan_laws_new.proofs.Frames.{slice_get-set_same, reads-sub}
+use Rattle.ds_image.proofs.Journaling.LaidOver.{slice_get-set_same}
+use Rattle.ds_plan_laws_new.proofs.Frames.{reads-sub}
 use Rattle.ds_plan_laws_new.proofs.Granting.{key-node}
-use Rattle.ds_plan_laws_new.proofs.Guards.{guard-sub_listed}
+use Rattle.ds_image.proofs.SectorGuards.{guard-sub_listed}
 use Rattle.ds_plan_laws_new.proofs.Listed.{listed-by, listed-in, part-put}
 use Rattle.ds_plan_laws_new.proofs.Puts.{in_use, put-room, put-room_back}
 use Rattle.ds_plan_laws_new.proofs.Rooms.{used_in, used-same, used-put}

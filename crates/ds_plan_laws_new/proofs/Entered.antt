@@ -20,7 +20,7 @@ use Rattle.ds_image.proofs.Spelling.SoundParts.{all-at, all-from_at, list-is, so
 use Rattle.ds_plan_laws_new.specs.Beginning.{Begins}
 use Rattle.ds_plan_laws_new.specs.Entering.{subs_in, LacksName}
 use Rattle.ds_plan_laws_new.specs.Puts.{IsPut}
-use Rattle.ds_plan_laws_new.proofs.Bits.{all-put}
+use Rattle.ds_image.proofs.Bits.{all-put}
 use Rattle.ds_plan_laws_new.proofs.Names.{apart-put}
 use Rattle.ds_plan_laws_new.proofs.NewBodies.{ListsNothing, unused-lists_nothing, empty-lists_nothing, dir-lists_none, blocks-same, tail-same}
 use Rattle.ds_plan_laws_new.proofs.Puts.{put-at}

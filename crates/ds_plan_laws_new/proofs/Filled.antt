@@ -22,7 +22,7 @@ use Rattle.ds_image.proofs.Spelling.SoundParts.{each_kind, objects-of}
 use Rattle.ds_plan_laws_new.specs.Beginning.{SetsBit, Begins}
 use Rattle.ds_plan_laws_new.specs.Entering.{subs_in, LacksName, FillsRoom}
 use Rattle.ds_plan_laws_new.specs.Puts.{IsPut}
-use Rattle.ds_plan_laws_new.proofs.Bits.{bits-set, all-put, bit-within}
+use Rattle.ds_image.proofs.Bits.{bits-set, all-put, bit-within}
 use Rattle.ds_plan_laws_new.proofs.Entered.{EntersBodies, EntersParts, lists-alike, new-subs, old-subs, dir-subs}
 use Rattle.ds_plan_laws_new.proofs.Listed.{listed-by, listed-in, part-put}
 use Rattle.ds_plan_laws_new.proofs.Puts.{in_use, put-room}

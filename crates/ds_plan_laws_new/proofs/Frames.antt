@@ -27,41 +27,16 @@ use Rattle.ds_ptr.specs.declared.ptr_block.PtrBlock.{PtrBlock}
 use Rattle.ds_image.specs.Looks.{Look, HasBytes}
 use Rattle.ds_image.specs.Parts.{Parts, part_at, maps_of}
 use Rattle.ds_image.specs.Readings.{SpellsBody, SpellsBits, SpellsSub, SpellsPtr, IsReading, ReadsParts}
+use Rattle.ds_image.proofs.Spelling.Decoded.{decoded_as}
 use Rattle.ds_image.proofs.NewVolumes.FreshLists.{decoded_one}
-use Rattle.ds_image.proofs.Journaling.LaidOver.{slice_get-set}
+use Rattle.ds_image.proofs.Journaling.LaidOver.{slice_get-set_same, slice_get-set_other}
+use Rattle.ds_image.proofs.SameSectors.{reading-as, body-as, bits-as, sub-as, ptr-as}
 use Rattle.ds_image.proofs.Spelling.SoundParts.{each_kind}
 use Rattle.ds_image.proofs.NewVolumes.FreshVolume.{same_bytes}
 use Rattle.ds_image.proofs.Spelling.Readings.{few_clusters}
 use Rattle.ds_plan_laws_new.specs.Changed.{with_maps}
 
--- Places of a list after a write
-
-pub slice_get-set_same : {X : Type 0} (xs : List X) (i : ℕ) (x : X) → i < length xs → slice_get (slice_set xs i x) i ≡ Some x
-slice_get-set_same xs i x within =
-    slice_get-set xs i i x within ∙ ap (λ b. if b then Some x else slice_get xs i) (eq-eqb i i refl)
-
-pub slice_get-set_other : {X : Type 0} (xs : List X) (i k : ℕ) (x : X) → i ≢ k → slice_get (slice_set xs i x) k ≡ slice_get xs k
-slice_get-set_other xs i k x apart = elim (cases_lt k (length xs)) [
-  | inl within ↦ slice_get-set xs i k x within ∙ ap (λ b. if b then Some x else slice_get xs k) (ne_eqb i k apart)
-  | inr past ↦ slice_get_past (slice_set xs i x) k (omega (arith, length-set xs i x)) ∙ sym (slice_get_past xs k past)
-]
-
 -- Readings of which one part was put
-
-has-same : (look look' : Look) (at : ℕ) (bytes : List ℕ) → look at ≡ look' at → HasBytes look at bytes → HasBytes look' at bytes
-has-same look look' at bytes same has = subst (λ (o : Option Sector). (s : Sector) × (o ≡ Some s) × (s.bytes ≡ bytes)) same has
-
-decoded-as : {V : Type 0} (r : Option V) (Describes Then : V → Type 0) → ((v : V) → Describes v → Then v) → ((v : V) → Then v → Describes v)
-    → IsDecoded r Describes → IsDecoded r Then
-decoded-as r Describes Then to from read v = (λ e. to v ((read v).0 e), λ d. (read v).1 (from v d))
-
-reading-as : {V : Type 0} (n : ℕ) (Spells Then : ℕ → V → Type 0) (xs : List (Option V))
-    → ((i : ℕ) → i < n → (v : V) → Spells i v → Then i v) → ((i : ℕ) → i < n → (v : V) → Then i v → Spells i v)
-    → IsReading n Spells xs → IsReading n Then xs
-reading-as n Spells Then xs to from read = record {
-  len = read.len;
-  each = λ i l. decoded-as (part_at xs i) (Spells i) (Then i) (to i l) (from i l) (read.each i l);
-}
 
 reading-put : {V : Type 0} (n : ℕ) (Spells Then : ℕ → V → Type 0) (xs : List (Option V)) (at : ℕ) (r : Option V) → at < n
     → ((i : ℕ) → i < n → i ≢ at → (v : V) → Spells i v → Then i v) → ((i : ℕ) → i < n → i ≢ at → (v : V) → Then i v → Spells i v)
@@ -72,27 +47,11 @@ reading-put n Spells Then xs at r within to from new read = record {
     | inl here ↦ subst (λ k. IsDecoded (part_at (slice_set xs at r) k) (Then k)) (sym here)
         (subst (λ x. IsDecoded x (Then at)) (sym (get_or-set_same xs at r None (omega (arith, read.len)))) new)
     | inr apart ↦ subst (λ x. IsDecoded x (Then i)) (sym (get_or-set_other xs at i r None apart))
-        (decoded-as (part_at xs i) (Spells i) (Then i) (to i l apart) (from i l apart) (read.each i l))
+        (decoded_as (part_at xs i) (Spells i) (Then i) (to i l apart) (from i l apart) (read.each i l))
   ];
 }
 
 -- What the other places spell
-
-body-as : (g : Geom) (look look' : Look) (o : ℕ) → look (place_sector g (places.Body o)) ≡ look' (place_sector g (places.Body o))
-    → (b : Body) → SpellsBody g look o b → SpellsBody g look' o b
-body-as g look look' o same b spells = (spells.0, spells.1, has-same look look' (place_sector g (places.Body o)) (body_bytes b) same spells.2)
-
-bits-as : (g : Geom) (look look' : Look) (kind : Kind) (c : ℕ) → look (place_sector g (places.Bitmap kind c)) ≡ look' (place_sector g (places.Bitmap kind c))
-    → (b : Bitmap) → SpellsBits g look kind c b → SpellsBits g look' kind c b
-bits-as g look look' kind c same b spells = (spells.0, has-same look look' (place_sector g (places.Bitmap kind c)) (bits_bytes b) same spells.1)
-
-sub-as : (g : Geom) (look look' : Look) (n : ℕ) → look (place_sector g (places.SubBlock n)) ≡ look' (place_sector g (places.SubBlock n))
-    → (b : SubBlock) → SpellsSub g look n b → SpellsSub g look' n b
-sub-as g look look' n same b spells = (spells.0, has-same look look' (place_sector g (places.SubBlock n)) (sub_bytes b) same spells.1)
-
-ptr-as : (g : Geom) (look look' : Look) (n : ℕ) → look (place_sector g (places.PtrBlock n)) ≡ look' (place_sector g (places.PtrBlock n))
-    → (b : PtrBlock) → SpellsPtr g look n b → SpellsPtr g look' n b
-ptr-as g look look' n same b spells = (spells.0, has-same look look' (place_sector g (places.PtrBlock n)) (ptr_bytes b) same spells.1)
 
 module _ (g : Geom) (is : IsGeom g) (image : List Sector) (at : Place) (s : Sector) (inside : IsPlace g at) where
   abbrev before : Look

@@ -22,7 +22,7 @@ use Rattle.ds_image.proofs.Ownership.Listed.{bits_length}
 use Rattle.ds_image.proofs.Ownership.OwnedCounts.{marked_count, used_are}
 use Rattle.ds_image.proofs.Spelling.Sizes.{body_is, file_size, many_pointers}
 use Rattle.ds_image.proofs.FileTrees.TreeParts.{objects-are}
-use Rattle.ds_plan_laws_new.proofs.Bits.{clear_count, clear-and_marked, clear-some}
+use Rattle.ds_image.proofs.Bits.{clear_count, clear-and_marked, clear-some}
 
 -- sums whose terms are the lengths of lists
 sum-same : {B A : Type 0} (u : A → ℕ) (made : B → A) (f : B → List ℕ) (bodies : List B)

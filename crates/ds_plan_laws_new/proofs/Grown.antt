@@ -27,7 +27,7 @@ use Rattle.ds_image.proofs.Spelling.SoundParts.{each_kind, list-is, objects-of}
 use Rattle.ds_plan_laws_new.specs.Beginning.{SetsBit, Begins}
 use Rattle.ds_plan_laws_new.specs.Entering.{subs_in, LacksName, AddsRooms}
 use Rattle.ds_plan_laws_new.specs.Puts.{IsPut}
-use Rattle.ds_plan_laws_new.proofs.Bits.{bits-set, bits-get, all-put, bit-within}
+use Rattle.ds_image.proofs.Bits.{bits-set, bits-get, all-put, bit-within}
 use Rattle.ds_plan_laws_new.proofs.Entered.{EntersBodies, EntersParts, is_new, is_dir, is_other, where-is, apart, d-within, new-subs, old-subs, dir-subs, dir-subs_after}
 use Rattle.ds_plan_laws_new.proofs.Listed.{listed-by, listed-in, listed-nowhere, part-put}
 use Rattle.ds_plan_laws_new.proofs.Puts.{in_use}

@@ -24,10 +24,10 @@ use Rattle.ds_image.specs.Parts.{Parts}
 use Rattle.ds_image.specs.Readings.{ReadsParts}
 use Rattle.ds_image.specs.Sound.{StandsFor, IsSound, sub_lists}
 use Rattle.ds_plan_laws_new.specs.Entering.{FillsRoom}
-use Rattle.ds_plan_laws_new.specs.Guarded.{GuardedBy}
+use Rattle.ds_image.specs.Guards.{GuardedBy}
 use Rattle.ds_plan_laws_new.specs.Making.{ReadyToMake}
 use Rattle.ds_plan_laws_new.proofs.Entered.{at-dir, entered-sound}
-use Rattle.ds_plan_laws_new.proofs.Guards.{guard-body, guard-map, guard-sub_listed}
+use Rattle.ds_image.proofs.SectorGuards.{guard-body, guard-map, guard-sub_listed}
 use Rattle.ds_plan_laws_new.proofs.Listed.{listed-in}
 use Rattle.ds_plan_laws_new.proofs.Spelling.{body-at, map-at, sub-at}
 use Rattle.ds_plan_laws_new.proofs.StandsFilled.{filled-reads}

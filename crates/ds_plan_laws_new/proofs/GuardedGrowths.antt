@@ -25,12 +25,12 @@ use Rattle.ds_image.specs.Pending.{Pair}
 use Rattle.ds_image.specs.Readings.{ReadsParts}
 use Rattle.ds_image.specs.Sound.{StandsFor}
 use Rattle.ds_plan_laws_new.specs.Entering.{subs_in}
-use Rattle.ds_plan_laws_new.specs.Guarded.{GuardedBy}
+use Rattle.ds_image.specs.Guards.{GuardedBy}
 use Rattle.ds_plan_laws_new.specs.Making.{ReadyToMake, ReadyToGrow}
-use Rattle.ds_plan_laws_new.proofs.Bits.{bit-within}
+use Rattle.ds_image.proofs.Bits.{bit-within}
 use Rattle.ds_plan_laws_new.proofs.Entered.{at-dir, entered-sound}
 use Rattle.ds_plan_laws_new.proofs.Grown.{subs-grown, listed-by_none}
-use Rattle.ds_plan_laws_new.proofs.Guards.{guard-body, guard-map, guard-sub_listed, guard-sub_unlisted}
+use Rattle.ds_image.proofs.SectorGuards.{guard-body, guard-map, guard-sub_listed, guard-sub_unlisted}
 use Rattle.ds_plan_laws_new.proofs.Listed.{listed-in}
 use Rattle.ds_plan_laws_new.proofs.Spelling.{body-at, map-at}
 use Rattle.ds_plan_laws_new.proofs.StandsGrown.{grown-reads, n-within}

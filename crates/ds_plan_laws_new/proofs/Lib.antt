@@ -1,4 +1,3 @@
-pub mod Bits
 pub mod Bodies
 pub mod Entered
 pub mod EnteredTrees
@@ -10,10 +9,8 @@ pub mod Grown
 pub mod Granting
 pub mod GuardedFills
 pub mod GuardedGrowths
-pub mod Guards
 pub mod Listed
 pub mod Makes
-pub mod MarksByCluster
 pub mod Names
 pub mod NewBodies
 pub mod Puts

@@ -9,16 +9,12 @@ use Rattle.ds_tree.specs.Nodes.{FileTree}
 use Rattle.ds_tree.specs.Steps.{IsNextLife, has_change, is_refusal}
 use Rattle.ds_tree.specs.declared.calls.CallOf.{CallOf}
 use Rattle.ds_tree.specs.declared.calls.TreeReply.{TreeReply}
-use Rattle.ds_image.specs.Asking.{IsGuarded, IsRightChange, targets_of}
+use Rattle.ds_image.specs.Asking.{IsRightChange, targets_of}
 use Rattle.ds_image.specs.Logical.{laid_over}
 use Rattle.ds_image.specs.Pending.{Pair}
-use Rattle.ds_image.specs.SeenValues.{SeenValue}
-use Rattle.ds_plan_laws_new.specs.Guarded.{GuardedBy, HoldsLock}
+use Rattle.ds_image.specs.SeenValues.{SeenValue, HoldsLock}
+use Rattle.ds_image.specs.Guards.{GuardedBy}
 use Rattle.ds_plan_laws_new.specs.Making.{Leaves}
-
-all-guarded : (g : Geom) (seen : SeenValue) (image : List Sector) (targets : List ℕ) → All (GuardedBy g (slice_get image) (HoldsLock seen)) targets
-    → All (IsGuarded g seen image) targets
-all-guarded g seen image targets all i d l = let one = all i d l in record { object = one.object; guards = one.guards; held = one.held }
 
 pub right-change : (g : Geom) (call : CallOf Key) (seen : SeenValue) (image : List Sector) (t : FileTree) (pairs : List Pair) (reply : TreeReply)
     → is_refusal reply ≡ false → has_change t call ≡ true → IsNextLife t reply
@@ -33,6 +29,6 @@ right-change g call seen image t pairs reply good changes next leaves before aft
   unrefused = not-refused g t call reply leaves.u leaves.does good;
   changes = changes;
   next_life = next;
-  before = all-guarded g seen image (targets_of pairs) before;
-  after = all-guarded g seen (laid_over image pairs) (targets_of pairs) after;
+  before = before;
+  after = after;
 }

@@ -33,7 +33,7 @@ use Rattle.ds_image.proofs.Journaling.LaidOver.{whole-laid_over}
 use Rattle.ds_image.proofs.Spelling.SoundParts.{objects-of}
 use Rattle.ds_plan_laws_new.specs.Entering.{subs_in, make_call}
 use Rattle.ds_plan_laws_new.specs.Making.{ReadyToMake, ReadyToGrow, Leaves}
-use Rattle.ds_plan_laws_new.proofs.Bits.{bits-at}
+use Rattle.ds_image.proofs.Bits.{bits-at}
 use Rattle.ds_plan_laws_new.proofs.Entered.{EntersParts, apart}
 use Rattle.ds_plan_laws_new.proofs.FreeItems.{free-some}
 use Rattle.ds_plan_laws_new.proofs.Frames.{reads-body, reads-map, reads-sub}

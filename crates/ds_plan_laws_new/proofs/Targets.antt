@@ -8,11 +8,12 @@ use Rattle.ds_base.specs.declared.geometry.Geom.{Geom}
 use Rattle.ds_base.specs.declared.geometry.Kind.{Kind}
 use Rattle.ds_base.specs.declared.geometry.Kind.TheVariants.{Fd, Sb}
 use Rattle.ds_base.specs.declared.sectors.Sector.{Sector}
+use Rattle.ds_layout.proofs.MetadataPlaces.{body-metadata, map-metadata, sub-metadata}
 use Rattle.ds_layout.specs.Places.{place_sector}
 use Rattle.ds_layout.specs.declared.places.Place.TheVariants as places
 use Rattle.ds_image.specs.Asking.{AreTargets, targets_of}
 use Rattle.ds_plan_laws_new.specs.Redos.{filled_pairs, grown_pairs, AreInOrder}
-use Rattle.ds_image.specs.Metadata.{IsMetadata}
+use Rattle.ds_layout.specs.Metadata.{IsMetadata}
 
 -- Numbers that rise
 
@@ -25,18 +26,9 @@ rising-cons x y xs below rest (suc k) l =
     let next : suc k + 1 ≡ suc (k + 1) = omega arith in
     subst (λ j. slice_index (y ∷ xs) k < slice_index (x ∷ y ∷ xs) j) (sym next) (rest k (omega (arith, l)))
 
--- Sectors of metadata
+-- Sectors in their order
 
 module _ (g : Geom) where
-  pub body-metadata : (o : ℕ) → o < items_of g Fd → IsMetadata g (place_sector g (places.Body o))
-  body-metadata o within = record { place = places.Body o; is_place = within; here = refl; kept = refl }
-
-  pub map-metadata : (kind : Kind) (c : ℕ) → c < clusters_of g kind → IsMetadata g (place_sector g (places.Bitmap kind c))
-  map-metadata kind c within = record { place = places.Bitmap kind c; is_place = within; here = refl; kept = refl }
-
-  pub sub-metadata : (n : ℕ) → n < items_of g Sb → IsMetadata g (place_sector g (places.SubBlock n))
-  sub-metadata n within = record { place = places.SubBlock n; is_place = within; here = refl; kept = refl }
-
   -- bitmaps of descriptors stand before those of sub-blocks, and bitmaps before bodies, and bodies before sub-blocks
   map-before_map : (c c' : ℕ) → c < clusters_of g Fd → place_sector g (places.Bitmap Fd c) < place_sector g (places.Bitmap Sb c')
   map-before_map c c' within = omega (arith, within)
@@ -63,8 +55,8 @@ module _ (g : Geom) where
           some = omega arith;
           most = omega arith;
           rising = rising-cons a b (s ∷ []) (fd_map-before_body c o cluster) (rising-cons b s [] (body-before_sub o n object) (rising-one s));
-          metadata = All-cons (IsMetadata g) a (b ∷ s ∷ []) (map-metadata Fd c cluster) (All-cons (IsMetadata g) b (s ∷ []) (body-metadata o object)
-              (All-cons (IsMetadata g) s [] (sub-metadata n sub) (All-nil (IsMetadata g))));
+          metadata = All-cons (IsMetadata g) a (b ∷ s ∷ []) (map-metadata g Fd c cluster) (All-cons (IsMetadata g) b (s ∷ []) (body-metadata g o object)
+              (All-cons (IsMetadata g) s [] (sub-metadata g n sub) (All-nil (IsMetadata g))));
         }
 
     module _ (c' d : ℕ) (sub_cluster : c' < clusters_of g Sb) (directory : d < items_of g Fd) (map_sector sub_map_sector dir_sector new_sector block_sector : Sector) where
@@ -85,9 +77,9 @@ module _ (g : Geom) where
                 (rising-cons b f (h ∷ s ∷ []) (sb_map-before_body c' x sub_cluster)
                 (rising-cons f h (s ∷ []) (body-before_body x y below) (rising-cons h s [] (body-before_sub y n y_within) (rising-one s))));
             metadata =
-                All-cons Is a (b ∷ f ∷ h ∷ s ∷ []) (map-metadata Fd c cluster) (All-cons Is b (f ∷ h ∷ s ∷ []) (map-metadata Sb c' sub_cluster)
-                (All-cons Is f (h ∷ s ∷ []) (body-metadata x x_within) (All-cons Is h (s ∷ []) (body-metadata y y_within)
-                (All-cons Is s [] (sub-metadata n sub) (All-nil Is)))));
+                All-cons Is a (b ∷ f ∷ h ∷ s ∷ []) (map-metadata g Fd c cluster) (All-cons Is b (f ∷ h ∷ s ∷ []) (map-metadata g Sb c' sub_cluster)
+                (All-cons Is f (h ∷ s ∷ []) (body-metadata g x x_within) (All-cons Is h (s ∷ []) (body-metadata g y y_within)
+                (All-cons Is s [] (sub-metadata g n sub) (All-nil Is)))));
           }
 
       pub grown-targets : (swapped : Bool) → AreInOrder swapped d o

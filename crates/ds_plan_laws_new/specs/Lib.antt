@@ -3,7 +3,6 @@ pub mod Bodies
 pub mod Changed
 pub mod ChangedParts
 pub mod Entering
-pub mod Guarded
 pub mod Making
 pub mod Puts
 pub mod Redos

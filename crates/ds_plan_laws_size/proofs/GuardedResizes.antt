@@ -22,8 +22,8 @@ use Rattle.ds_layout.specs.Places.{cluster_lock, place_sector}
 use Rattle.ds_layout.specs.declared.places.Place.TheVariants as places
 use Rattle.ds_ptr.specs.declared.ptr_block.PtrBlock.{PtrBlock}
 use Rattle.ds_tree.specs.Nodes.{FileTree}
-use Rattle.ds_plan_laws_new.specs.Guarded.{GuardedBy}
-use Rattle.ds_plan_laws_new.proofs.Guards.{guard-body, guard-map, guard-ptr_listed, guard-ptr_unlisted}
+use Rattle.ds_image.specs.Guards.{GuardedBy}
+use Rattle.ds_image.proofs.SectorGuards.{guard-body, guard-map, guard-ptr_listed, guard-ptr_unlisted}
 use Rattle.ds_plan_laws_new.proofs.Spelling.{body-at}
 use Rattle.ds_plan_laws_size.specs.Pages.{ptrs_in}
 use Rattle.ds_plan_laws_size.specs.Ready.{ReadyToResize, resize_parts}

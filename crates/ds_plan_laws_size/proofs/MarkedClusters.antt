@@ -17,7 +17,7 @@ use Rattle.ds_image.specs.Readings.{ReadsParts, SpellsBits, IsReading}
 use Rattle.ds_image.proofs.Ownership.Listed.{bits_length}
 use Rattle.ds_image.proofs.Spelling.Places.{at-from_Contains}
 use Rattle.ds_image.proofs.Spelling.Sizes.{part_within}
-use Rattle.ds_plan_laws_new.proofs.Bits.{bits-get}
+use Rattle.ds_image.proofs.Bits.{bits-get}
 use Rattle.ds_plan_laws_size.specs.Clusters.{MarksCluster, MarksClusters}
 use Rattle.ds_plan_laws_size.specs.Remarks.{Remarks}
 use Rattle.ds_plan_laws_size.specs.Written.{put_all}

@@ -15,7 +15,7 @@ use Rattle.ds_image.specs.Sound.{IsSound, ptr_lists}
 use Rattle.ds_image.proofs.Ownership.Listed.{ptr_listed_within}
 use Rattle.ds_layout.specs.Places.{place_sector, blocks_at}
 use Rattle.ds_layout.specs.declared.places.Place.TheVariants as places
-use Rattle.ds_plan_laws_new.proofs.Guards.{guard-ptr_listed}
+use Rattle.ds_image.proofs.SectorGuards.{guard-ptr_listed}
 use Rattle.ds_plan_laws_size.specs.Pages.{ptrs_in}
 use Rattle.ds_plan_laws_size.proofs.FileLists.{ptr_list-is}
 

@@ -23,7 +23,7 @@ use Rattle.ds_image.specs.Sound.{StandsFor}
 use Rattle.ds_image.proofs.Spelling.Sizes.{body_is}
 use Rattle.ds_image.proofs.FileTrees.TreeParts.{object-is}
 use Rattle.ds_plan_laws_new.specs.Entering.{subs_in}
-use Rattle.ds_plan_laws_new.proofs.Bits.{clear_count}
+use Rattle.ds_image.proofs.Bits.{clear_count}
 use Rattle.ds_plan_laws_new.proofs.EnteredTrees.{dir-object, unused-object}
 use Rattle.ds_plan_laws_new.proofs.FreeItems.{free-clear}
 use Rattle.ds_plan_laws_new.proofs.Granting.{key-node}

@@ -6,10 +6,10 @@ use Rattle.std.proofs.lemmas.List.Sums.{sum_by-set}
 use Rattle.std.proofs.lemmas.Option.{slice_get_within}
 use Rattle.ds_image.specs.Owned.{CanMark, AddsMarks, with_marks}
 use Rattle.ds_image.specs.Owns.{Owns, list_of, bit}
-use Rattle.ds_image.proofs.Ownership.Marking.{clears-many, adds-one, can-back, ClearsMarks}
-use Rattle.ds_image.proofs.Ownership.Owning.{owns-adds, owns-given_up, AddsItems}
+use Rattle.ds_image.proofs.Ownership.Marking.{clears-many, adds-one, can-back}
+use Rattle.ds_image.proofs.Ownership.Owning.{owns-adds, owns-given_up}
 use Rattle.ds_image.proofs.Spelling.Places.{Contains-from_at, at-from_Contains, bit-at, bit-from_at, marked-within}
-use Rattle.ds_plan_laws_new.proofs.Bits.{clear_count}
+use Rattle.ds_image.proofs.Bits.{clear_count}
 use Rattle.ds_plan_laws_size.specs.Remarks.{Remarks}
 
 -- Whether an item is in a list

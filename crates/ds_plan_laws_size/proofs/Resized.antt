@@ -17,7 +17,7 @@ use Rattle.ds_image.proofs.FileTrees.NamesApart.{apart-none}
 use Rattle.ds_image.proofs.Ownership.Owning.{owns-alike}
 use Rattle.ds_image.proofs.Spelling.Sizes.{part_within}
 use Rattle.ds_image.proofs.Spelling.SoundParts.{all-at, all-from_at, list-is, sound-from, objects-of}
-use Rattle.ds_plan_laws_new.proofs.Bits.{all-put}
+use Rattle.ds_image.proofs.Bits.{all-put}
 use Rattle.ds_plan_laws_new.proofs.Rooms.{used-same}
 use Rattle.ds_plan_laws_size.specs.Pages.{ptrs_in, blocks_in}
 use Rattle.ds_plan_laws_size.specs.Resizing.{ResizesParts, blocks_after}

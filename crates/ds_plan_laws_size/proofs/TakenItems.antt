@@ -14,10 +14,10 @@ use Rattle.ds_image.specs.Owned.{CanMark, AddsMarks}
 use Rattle.ds_image.specs.Owns.{bit}
 use Rattle.ds_image.specs.Parts.{Parts, AllSpelled, maps_of, bits_in}
 use Rattle.ds_image.specs.Readings.{ReadsParts}
-use Rattle.ds_image.proofs.Ownership.Marking.{adds-many, clears-many, ClearsMarks}
+use Rattle.ds_image.proofs.Ownership.Marking.{adds-many, clears-many}
 use Rattle.ds_image.proofs.Spelling.Places.{at-append, at-append_left, at-append_right, Contains-from_at, at-from_Contains}
 use Rattle.ds_image.proofs.Spelling.Sizes.{part_within}
-use Rattle.ds_plan_laws_new.proofs.Bits.{bit-within, bits-at}
+use Rattle.ds_image.proofs.Bits.{bit-within, bits-at}
 use Rattle.ds_plan_laws_size.specs.Clusters.{MarksCluster, MarksClusters}
 use Rattle.ds_plan_laws_size.specs.Takes.{Take, items_taken, maps_taken, Takes, items_in_cluster, Gives}
 

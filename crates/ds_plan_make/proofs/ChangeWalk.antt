@@ -18,7 +18,7 @@ use Rattle.ds_plan_laws_new.specs.Entering.{subs_in, FillsRoom, make_call}
 use Rattle.ds_plan_laws_new.specs.Making.{ReadyToMake, ReadyToGrow}
 use Rattle.ds_plan_laws_new.proofs.GuardedFills.{filled-guarded_before, filled-guarded_after}
 use Rattle.ds_plan_laws_new.proofs.GuardedGrowths.{grown-guarded_before, grown-guarded_after}
-use Rattle.ds_plan_laws_new.specs.Guarded.{HoldsLock}
+use Rattle.ds_image.specs.SeenValues.{HoldsLock}
 use Rattle.ds_plan_laws_new.specs.Redos.{grown_pairs}
 use Rattle.ds_plan_laws_new.proofs.RightChanges.{right-change}
 use Rattle.ds_plan_laws_new.proofs.StandsFilled.{filled-leaves}

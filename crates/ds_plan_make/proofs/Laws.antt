@@ -17,7 +17,7 @@ use Rattle.ds_base.specs.declared.names.NodeKind.{NodeKind}
 use Rattle.ds_base.specs.declared.names.NodeKind.TheVariants as kinds
 use Rattle.ds_base.specs.declared.sectors.Sector.{Sector}
 use Rattle.ds_plan_laws_new.specs.Entering.{make_call}
-use Rattle.ds_plan_laws_new.proofs.Bits.{bits-at, clear-some}
+use Rattle.ds_image.proofs.Bits.{bits-at, clear-some}
 use Rattle.ds_plan_laws_new.proofs.FreeItems.{free-some}
 use Rattle.ds_fd.specs.Body.{most_count}
 use Rattle.ds_fd.specs.declared.body.Body.{Body}

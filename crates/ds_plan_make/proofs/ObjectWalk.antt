@@ -11,7 +11,7 @@ use Rattle.ds_base.specs.declared.geometry.Geom.{Geom}
 use Rattle.ds_base.specs.declared.geometry.Kind.TheVariants.{Fd}
 use Rattle.ds_base.specs.declared.names.Key.{Key}
 use Rattle.ds_base.specs.declared.sectors.Sector.{Sector}
-use Rattle.ds_plan_laws_new.proofs.Bits.{bits-at}
+use Rattle.ds_image.proofs.Bits.{bits-at}
 use Rattle.ds_fd.specs.declared.body.Body.{Body}
 use Rattle.ds_image.specs.Asking.{Agrees, makes_object}
 use Rattle.ds_image.specs.Objects.{is_used}

@@ -8,7 +8,7 @@ use Rattle.std.proofs.lemmas.Nat.{div-add-mod'}
 use Rattle.std.proofs.lemmas.Option.{slice_get_within, slice_get-get_or, get_or_from_slice_get}
 use Rattle.ds_base.specs.declared.names.NodeKind.{NodeKind}
 use Rattle.ds_base.specs.declared.names.NodeKind.TheVariants as kinds
-use Rattle.ds_plan_laws_new.proofs.Bits.{flat-get}
+use Rattle.ds_image.proofs.Bits.{flat-get}
 use Rattle.ds_fd.specs.declared.body.Body.{Body}
 use Rattle.ds_image.specs.Objects.{addresses_in, ptrs_by, ptrs_of, pointed_by, blocks_by, blocks_of}
 use Rattle.ds_image.specs.Parts.{Parts, part_at}

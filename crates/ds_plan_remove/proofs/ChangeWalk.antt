@@ -7,7 +7,7 @@ use Rattle.ds_base.specs.declared.names.NodeKind.{NodeKind}
 use Rattle.ds_base.specs.declared.names.NodeKind.TheVariants as kinds
 use Rattle.ds_base.specs.declared.sectors.Sector.{Sector}
 use Rattle.ds_bytes.specs.Fields.{zeros}
-use Rattle.ds_plan_laws_new.specs.Guarded.{HoldsLock}
+use Rattle.ds_image.specs.SeenValues.{HoldsLock}
 use Rattle.ds_plan_laws_new.proofs.RightChanges.{right-change}
 use Rattle.ds_dir.specs.SubBlock.{sub_bytes}
 use Rattle.ds_dir.specs.declared.sub_block.Entry.{Entry}

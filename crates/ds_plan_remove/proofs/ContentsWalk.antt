@@ -14,7 +14,7 @@ use Rattle.ds_base.specs.declared.names.Key.{Key}
 use Rattle.ds_base.specs.declared.names.NodeKind.{NodeKind}
 use Rattle.ds_base.specs.declared.names.NodeKind.TheVariants as kinds
 use Rattle.ds_base.specs.declared.sectors.Sector.{Sector}
-use Rattle.ds_plan_laws_new.proofs.Guards.{guard-ptr_listed}
+use Rattle.ds_image.proofs.SectorGuards.{guard-ptr_listed}
 use Rattle.ds_plan_laws_new.proofs.Names.{by_name-length}
 use Rattle.ds_plan_laws_new.proofs.Rooms.{used-append}
 use Rattle.ds_dir.specs.declared.sub_block.Entry.{Entry}

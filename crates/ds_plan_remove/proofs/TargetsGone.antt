@@ -9,11 +9,11 @@ use Rattle.ds_base.specs.declared.geometry.Geom.{Geom}
 use Rattle.ds_base.specs.declared.geometry.Kind.{Kind}
 use Rattle.ds_base.specs.declared.geometry.Kind.TheVariants.{Fd, Sb, Pb, Fb}
 use Rattle.ds_base.specs.declared.sectors.Sector.{Sector}
-use Rattle.ds_plan_laws_new.proofs.Targets.{body-metadata, map-metadata, sub-metadata}
+use Rattle.ds_layout.proofs.MetadataPlaces.{body-metadata, map-metadata, sub-metadata}
 use Rattle.ds_plan_laws_gone.specs.MapWrites.{MapWrite, map_pairs}
 use Rattle.ds_plan_laws_gone.proofs.StandsGone.{gone-pairs}
 use Rattle.ds_image.specs.Asking.{AreTargets, targets_of}
-use Rattle.ds_image.specs.Metadata.{IsMetadata}
+use Rattle.ds_layout.specs.Metadata.{IsMetadata}
 use Rattle.ds_image.specs.Pending.{Pair}
 use Rattle.ds_image.proofs.Spelling.Places.{at-append}
 use Rattle.ds_image.proofs.Spelling.SoundParts.{all-from_at}

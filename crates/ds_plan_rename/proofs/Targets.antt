@@ -5,12 +5,13 @@ use Rattle.ds_base.specs.Geometry.{clusters_of, items_of}
 use Rattle.ds_base.specs.declared.geometry.Geom.{Geom}
 use Rattle.ds_base.specs.declared.geometry.Kind.TheVariants.{Fd, Sb}
 use Rattle.ds_base.specs.declared.sectors.Sector.{Sector}
-use Rattle.ds_plan_laws_new.proofs.Targets.{body-metadata, map-metadata, sub-metadata, rising-one, rising-cons}
+use Rattle.ds_layout.proofs.MetadataPlaces.{body-metadata, map-metadata, sub-metadata}
+use Rattle.ds_plan_laws_new.proofs.Targets.{rising-one, rising-cons}
 use Rattle.ds_plan_laws_new.specs.Redos.{AreInOrder}
 use Rattle.ds_plan_laws_gone.proofs.StandsCrossed.{crossed-pairs}
 use Rattle.ds_plan_laws_gone.proofs.StandsCrossedGrown.{crossed_grown-pairs}
 use Rattle.ds_image.specs.Asking.{AreTargets, targets_of}
-use Rattle.ds_image.specs.Metadata.{IsMetadata}
+use Rattle.ds_layout.specs.Metadata.{IsMetadata}
 use Rattle.ds_layout.specs.Places.{place_sector}
 use Rattle.ds_layout.specs.declared.places.Place.TheVariants as places
 

@@ -18,7 +18,7 @@ use Rattle.ds_bytes.specs.Fields.{AllBelow}
 use Rattle.ds_fd.specs.Body.{IsBody}
 use Rattle.ds_fd.specs.declared.body.Body.{Body}
 use Rattle.ds_image.specs.Asking.{Agrees, targets_of, IsRightChange}
-use Rattle.ds_image.specs.Metadata.{IsMetadata}
+use Rattle.ds_layout.specs.Metadata.{IsMetadata}
 use Rattle.ds_image.specs.Owned.{CanMark}
 use Rattle.ds_image.specs.Parts.{Parts, part_at, bits_in}
 use Rattle.ds_image.specs.Pending.{Pair}

@@ -14,7 +14,7 @@ use Rattle.ds_base.specs.declared.geometry.Kind.{Kind}
 use Rattle.ds_base.specs.declared.names.Key.{Key}
 use Rattle.ds_base.specs.declared.sectors.Sector.{Sector}
 use Rattle.ds_bitmap.specs.Bits.{Bitmap}
-use Rattle.ds_plan_laws_new.proofs.Bits.{clear_count, clear-by_cluster}
+use Rattle.ds_image.proofs.Bits.{clear_count, clear-by_cluster}
 use Rattle.ds_image.specs.Asking.{Agrees}
 use Rattle.ds_image.specs.Owned.{CanMark}
 use Rattle.ds_image.specs.Parts.{Parts, part_at, maps_of, bits_in, used_bits}

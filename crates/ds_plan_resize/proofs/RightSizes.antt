@@ -8,7 +8,7 @@ use Rattle.ds_base.specs.declared.geometry.Kind.TheVariants.{Fd, Pb, Fb}
 use Rattle.ds_base.specs.declared.names.Key.{Key}
 use Rattle.ds_base.specs.declared.sectors.Sector.{Sector}
 use Rattle.ds_bitmap.specs.Bits.{Bitmap}
-use Rattle.ds_plan_laws_new.specs.Guarded.{HoldsLock}
+use Rattle.ds_image.specs.SeenValues.{HoldsLock}
 use Rattle.ds_plan_laws_new.proofs.RightChanges.{right-change}
 use Rattle.ds_fd.specs.declared.body.Body.{Body}
 use Rattle.ds_image.specs.Asking.{IsRightChange}

@@ -1,5 +1,4 @@
 mod FirstItem
 mod Given
 mod NextEntries
-mod SlotReading
 mod TurnsTold

@@ -14,11 +14,11 @@ use Rattle.ds_tree.specs.declared.scenarios.Scenario.{Scenario}
 use Rattle.ds_world.specs.declared.logs.Event.{Event}
 use Rattle.ds_world.specs.declared.logs.Step.{Step}
 use Rattle.ds_world.specs.declared.logs.Step.TheVariants.{Sent}
-use Rattle.ds_world.specs.Slots.{slot_in}
+use Rattle.ds_marks.specs.SlotIn.{slot_in}
 use Rattle.ds_report.specs.Hosts.{host_name}
 use Rattle.ds_report.specs.Slots.{slot_at, turn_word, turn_line, turned_line, swap_line, step_line}
 use Rattle.ds_report.specs.Turns.{IsBlock, AreBlocks, Spells, IsTurn, TellsTurns}
-use Rattle.ds_report.proofs.SlotReading.{slot_in-IsDecoded}
+use Rattle.ds_marks.proofs.SlotIn.{slot_in-IsDecoded}
 
 slot_at-there : (g : Geom) (at slot : ℕ) → slot < g.slots → at ≡ place_sector g (places.Slot slot) → slot_at g at ≡ Some slot
 slot_at-there g at slot within there =

@@ -1,9 +1,9 @@
 -- What sectors hold that pairs were laid over.
-use Rattle.std.proofs.Common.{◌≡◌, ℕ, ◌<◌, ◌≤◌, ◌==◌, ◌||◌, inl, inr, true, if◌then◌else◌, List, [], ◌∷◌, ◌++◌, length, get_or, slice_get, slice_set, Option, Some, refl, sym, ap, ◌∙◌, length-set, get_or-set_other, set-set, eq-eqb, ne_eqb, arith}
-use Rattle.std.proofs.lemmas.Bool.{false≢true, cases_eq}
+use Rattle.std.proofs.Common.{◌≡◌, ◌≢◌, ℕ, ◌<◌, ◌≤◌, ◌==◌, ◌||◌, inl, inr, true, if◌then◌else◌, List, [], ◌∷◌, ◌++◌, length, get_or, slice_get, slice_set, Option, Some, refl, sym, ap, ◌∙◌, length-set, get_or-set_other, set-set, eq-eqb, ne_eqb, arith}
+use Rattle.std.proofs.lemmas.Bool.{false≢true, cases_eq, cases_lt}
 use Rattle.std.proofs.lemmas.Grind.{get_or-set_at}
 use Rattle.std.proofs.lemmas.List.{set_comm}
-use Rattle.std.proofs.lemmas.Option.{slice_get-get_or}
+use Rattle.std.proofs.lemmas.Option.{slice_get-get_or, slice_get_past}
 use Rattle.std.specs.List.{list_any}
 use Rattle.ds_base.specs.declared.geometry.Geom.{Geom}
 use Rattle.ds_base.specs.declared.sectors.Sector.{Sector}
@@ -20,6 +20,16 @@ slice_get-set {X = X} xs i k x l =
       | inl e ↦ rw (eq-eqb i k e) (read ∙ ap Some (get_or-set_at xs i k x x (sym e) (omega (arith, e))))
       | inr apart ↦ rw (ne_eqb i k apart) (read ∙ ap Some (get_or-set_other xs i k x x (λ e. apart (sym e))) ∙ sym (slice_get-get_or xs k x l))
     ]
+
+pub slice_get-set_same : {X : Type 0} (xs : List X) (i : ℕ) (x : X) → i < length xs → slice_get (slice_set xs i x) i ≡ Some x
+slice_get-set_same xs i x within =
+    slice_get-set xs i i x within ∙ ap (λ b. if b then Some x else slice_get xs i) (eq-eqb i i refl)
+
+pub slice_get-set_other : {X : Type 0} (xs : List X) (i k : ℕ) (x : X) → i ≢ k → slice_get (slice_set xs i x) k ≡ slice_get xs k
+slice_get-set_other xs i k x apart = elim (cases_lt k (length xs)) [
+  | inl within ↦ slice_get-set xs i k x within ∙ ap (λ b. if b then Some x else slice_get xs k) (ne_eqb i k apart)
+  | inr past ↦ slice_get_past (slice_set xs i x) k (omega (arith, length-set xs i x)) ∙ sym (slice_get_past xs k past)
+]
 
 -- the last pair of a number, or else what was there
 abbrev pub picked : List Pair → ℕ → Option Sector → Option Sector

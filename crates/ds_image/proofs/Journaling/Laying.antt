@@ -24,7 +24,7 @@ use Rattle.ds_image.specs.ImageValues.{IsImage}
 use Rattle.ds_image.specs.Laying.{Lays, IsCommitted, ArePendingBelow}
 use Rattle.ds_image.specs.Logical.{laid_over, IsLogical}
 use Rattle.ds_image.specs.Looks.{Look, AreBlocks, IsBlock}
-use Rattle.ds_image.specs.Metadata.{front_of}
+use Rattle.ds_layout.specs.Metadata.{front_of}
 use Rattle.ds_image.specs.Pending.{Pair, IsIndexOf, AreJournalled, AreOfJournal, ArePending}
 use Rattle.ds_image.specs.Readings.{SpellsSlot}
 use Rattle.ds_image.specs.Replaced.{image_of}

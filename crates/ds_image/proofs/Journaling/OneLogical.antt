@@ -15,7 +15,7 @@ use Rattle.ds_marks.specs.declared.slot.Journal.{Journal}
 use Rattle.ds_marks.specs.declared.slot.Journal.TheVariants.{Idle, Committed}
 use Rattle.ds_image.specs.Logical.{IsLogical, laid_over}
 use Rattle.ds_image.specs.Looks.{Look, HasBytes}
-use Rattle.ds_image.specs.Metadata.{front_of}
+use Rattle.ds_layout.specs.Metadata.{front_of}
 use Rattle.ds_image.specs.Pending.{Pair, IsIndexOf, AreJournalled, AreOfJournal, AreOfSlot, ArePending}
 use Rattle.ds_image.specs.Readings.{SpellsSlot}
 use Rattle.ds_image.proofs.Spelling.Decoded.{decoded_same}

@@ -12,7 +12,7 @@ use Rattle.ds_base.specs.declared.sectors.Sector.{Sector}
 use Rattle.std.specs.declared.cmp.Ordering.TheVariants.{Less, Equal, Greater}
 use Rattle.ds_layout.specs.Places.{blocks_at}
 use Rattle.ds_image.specs.Looks.{Look}
-use Rattle.ds_image.specs.Metadata.{front_of}
+use Rattle.ds_layout.specs.Metadata.{front_of}
 use Rattle.ds_image.specs.Replaced.{or_sector, replaced_from, image_of}
 use Rattle.ds_image.proofs.Journaling.LaidOver.{slice_get-set}
 

@@ -32,7 +32,8 @@ use Rattle.ds_tree.specs.Nodes.{fresh_tree}
 use Rattle.ds_image.specs.Formatted.{fresh_slot, fresh_body, fresh_bits, formatted_at, IsFormatted}
 use Rattle.ds_image.specs.Logical.{laid_over, IsLogical}
 use Rattle.ds_image.specs.Looks.{Look, HasBytes}
-use Rattle.ds_image.specs.Metadata.{is_metadata, front_of}
+use Rattle.ds_layout.proofs.MetadataPlaces.{metadata_within}
+use Rattle.ds_layout.specs.Metadata.{is_metadata, front_of}
 use Rattle.ds_image.specs.Parts.{maps_of}
 use Rattle.ds_image.specs.Pending.{Pair, AreOfSlot, ArePending}
 use Rattle.ds_image.specs.Readings.{SpellsSlot, SpellsBody, SpellsBits, SpellsSub, SpellsPtr, IsReading, ReadsParts}
@@ -41,7 +42,7 @@ use Rattle.ds_image.proofs.NewVolumes.FreshLists.{reading_made, decoded_one, get
 use Rattle.ds_image.proofs.NewVolumes.FreshParts.{empty_ptr, fresh_parts, fresh_sound, tree_of-fresh}
 
 -- a free slot in generation 1 is a slot
-fresh_slot_is : IsSlot fresh_slot
+pub fresh_slot_is : IsSlot fresh_slot
 fresh_slot_is = record {
   widths = record { host_size = refl; txn_fits = omega arith };
   ranges = record { generation_from = omega arith; generation_to = omega arith; is_of_state = (refl, refl, refl); is_of_journal = tt };
@@ -85,22 +86,6 @@ pub same_bytes : (look : Look) (at : ℕ) (a b : List ℕ) → HasBytes look at 
 same_bytes look at a b p q =
     let same : p.0 ≡ q.0 = let first : look at ≡ Some p.0 = p.1 in let second : look at ≡ Some q.0 = q.1 in cc in
     sym p.2 ∙ ap (λ (s : Sector). s.bytes) same ∙ q.2
-
--- metadata stand in front of the file blocks
-metadata_within : (g : Geom) (place : Place) → IsPlace g place → is_metadata place ≡ true → place_sector g place < blocks_at g
-metadata_within g (places.Body object) h is = omega arith
-metadata_within g (places.Bitmap Fd cluster) h is = omega arith
-metadata_within g (places.Bitmap Sb cluster) h is = omega arith
-metadata_within g (places.Bitmap Pb cluster) h is = omega arith
-metadata_within g (places.Bitmap Fb cluster) h is = omega arith
-metadata_within g (places.SubBlock n) h is = omega arith
-metadata_within g (places.PtrBlock n) h is = omega arith
-metadata_within g places.VolInfo h is = absurd cc
-metadata_within g places.FsInfo h is = absurd cc
-metadata_within g (places.Slot slot) h is = absurd cc
-metadata_within g (places.Journal slot index) h is = absurd cc
-metadata_within g (places.Header object) h is = absurd cc
-metadata_within g (places.Block block index) h is = absurd cc
 
 -- a sector in front of the file blocks is that of the store
 front_has : (g : Geom) (sectors : List Sector) (at : ℕ) (bytes : List ℕ) → HasBytes (slice_get sectors) at bytes → at < blocks_at g → HasBytes (slice_get (front_of g sectors)) at bytes
@@ -192,7 +177,7 @@ module _ (g : Geom) (volume : List ℕ) (sectors : List Sector) (is : IsGeom g) 
     is_tree = fresh-is_tree g is;
   }
 
-  slot_spelled : (number : ℕ) → number < g.slots → IsDecoded (Some fresh_slot) (SpellsSlot g (slice_get sectors) number)
+  pub slot_spelled : (number : ℕ) → number < g.slots → IsDecoded (Some fresh_slot) (SpellsSlot g (slice_get sectors) number)
   slot_spelled number l =
       let few : g.slots ≤ 16 = (bounds g is).slots in
       let has = formatted.each (places.Slot number) l in
@@ -207,7 +192,7 @@ module _ (g : Geom) (volume : List ℕ) (sectors : List Sector) (is : IsGeom g) 
       let OfSlot : Option Slot → Type 0 = λ slot. AreOfSlot g sectors number slot pairs in
       subst OfSlot same pending.of_slot
 
-  pending_none : (number : ℕ) → number < g.slots → ArePending g sectors number []
+  pub pending_none : (number : ℕ) → number < g.slots → ArePending g sectors number []
   pending_none number l = record { slot = Some fresh_slot; decoded = slot_spelled number l; of_slot = refl }
 
   -- the sectors in front of the file blocks are a logical image of the volume

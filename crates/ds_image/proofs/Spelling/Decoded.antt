@@ -15,7 +15,7 @@ decoded_same None (Some y) Describes p q = (p y).1 ((q y).0 refl)
 decoded_same (Some x) b Describes p q = sym ((q x).1 ((p x).0 refl))
 
 -- what describes the same values is decoded alike
-decoded_as : {V : Type 0} (a : Option V) (Describes Then : V → Type 0) → ((v : V) → Describes v → Then v) → ((v : V) → Then v → Describes v) → IsDecoded a Describes → IsDecoded a Then
+pub decoded_as : {V : Type 0} (a : Option V) (Describes Then : V → Type 0) → ((v : V) → Describes v → Then v) → ((v : V) → Then v → Describes v) → IsDecoded a Describes → IsDecoded a Then
 decoded_as a Describes Then to from p v = (λ e. to v ((p v).0 e), λ d. (p v).1 (from v d))
 
 -- two lists of the same parts are one

@@ -1,6 +1,6 @@
 -- The targets so far are metadata.
 use Rattle.std.proofs.Common.{ℕ, ◌<◌, slice_index}
-use Rattle.ds_image.specs.Metadata.{IsMetadata}
+use Rattle.ds_layout.specs.Metadata.{IsMetadata}
 use Rattle.ds_image.proofs.reads.are_metadata.Given as goal
 
 abbrev pub invariant-loop-target : goal.invariant-loop-target

@@ -8,4 +8,4 @@ use Rattle.ds_image.proofs.reads.header_at.Goals as goal
 pub returns : goal.returns
 returns g c =
     numbered_at (slice_get (g.S.Store.sectors c.args.store.now)) (header_sector c.args.geom.now c.args.object) c.sector_at-sector.result
-    (λ h. h.object ≡ c.args.object) IsHeader header_bytes c.decode.result c.sector_at-sector.ensures c.decode.ensures
+    (λ h. h.object ≡ c.args.object) IsHeader header_bytes c.decode.result c.sector_at-sector.ensures c.decode.ensures.spelled
