@@ -12,7 +12,7 @@ use Rattle.ds_image.specs.ImageValues.{IsImage}
 use Rattle.ds_layout.specs.Metadata.{IsMetadata}
 use Rattle.ds_image.specs.Parts.{Parts, part_at}
 use Rattle.ds_image.specs.Planning.{Answers, Asks, AllKeep, AllAreFew}
-use Rattle.ds_image.specs.Reaching.{AllGuarded}
+use Rattle.ds_image.specs.Planning.{AllGuarded}
 use Rattle.ds_image.specs.Readings.{ReadsParts}
 use Rattle.ds_image.specs.SeenValues.{SeenValue, IsSeen, has_lock, look_of, sector_in, with_lock, with_sector}
 use Rattle.ds_image.specs.Sound.{StandsFor}

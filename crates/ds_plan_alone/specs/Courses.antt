@@ -7,7 +7,7 @@ use Rattle.ds_image.specs.Asking.{makes_object}
 use Rattle.ds_image.specs.Logical.{laid_over}
 use Rattle.ds_image.specs.Pending.{Pair}
 use Rattle.ds_image.specs.Planning.{Answers, Asks}
-use Rattle.ds_image.specs.Reaching.{AllGuarded}
+use Rattle.ds_image.specs.Planning.{AllGuarded}
 use Rattle.ds_image.specs.SeenValues.{SeenValue, with_lock, with_sector}
 use Rattle.ds_image.specs.Sound.{StandsFor}
 use Rattle.ds_image.specs.declared.asks.Ask.{Ask}

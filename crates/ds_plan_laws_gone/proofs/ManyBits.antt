@@ -15,6 +15,7 @@ use Rattle.ds_image.specs.Readings.{SpellsBits, IsReading}
 use Rattle.ds_image.proofs.Ownership.Listed.{bits_length}
 use Rattle.ds_image.proofs.Spelling.Places.{marked-within}
 use Rattle.ds_image.proofs.Bits.{bits-get}
+use Rattle.ds_image.proofs.Ownership.Marking.{ClearsMarks}
 
 pub some-is : {V : Type 0} (r : Option V) → IsSome r → (v : V) × (r ≡ Some v)
 some-is None some = absurd (false≢true some)

@@ -11,6 +11,8 @@ use Rattle.ds_image.proofs.Ownership.Owning.{owns-adds, owns-given_up}
 use Rattle.ds_image.proofs.Spelling.Places.{Contains-from_at, at-from_Contains, bit-at, bit-from_at, marked-within}
 use Rattle.ds_image.proofs.Bits.{clear_count}
 use Rattle.ds_plan_laws_size.specs.Remarks.{Remarks}
+use Rattle.ds_image.proofs.Ownership.Owning.{AddsItems}
+use Rattle.ds_image.proofs.Ownership.Marking.{ClearsMarks}
 
 -- Whether an item is in a list
 

@@ -20,6 +20,7 @@ use Rattle.ds_image.proofs.Spelling.Sizes.{part_within}
 use Rattle.ds_image.proofs.Bits.{bit-within, bits-at}
 use Rattle.ds_plan_laws_size.specs.Clusters.{MarksCluster, MarksClusters}
 use Rattle.ds_plan_laws_size.specs.Takes.{Take, items_taken, maps_taken, Takes, items_in_cluster, Gives}
+use Rattle.ds_image.proofs.Ownership.Marking.{ClearsMarks}
 
 -- Places of mapped and joined lists
 
