@@ -8,6 +8,7 @@ use Rattle.ds_base.specs.declared.names.Key.{Key}
 use Rattle.ds_base.specs.declared.sectors.Sector.{Sector}
 use Rattle.ds_image.specs.Asking.{Agrees, Given, IsFew, IsGuarded, Keeps, Locked, Reached, Start}
 use Rattle.ds_image.specs.Planning.{AllAreFew, AllKeep, Answers, Asks}
+use Rattle.ds_image.specs.Reaching.{AllGuarded}
 use Rattle.ds_image.specs.SeenValues.{SeenValue, has_lock, look_of, sector_in, with_lock, with_sector}
 use Rattle.ds_image.specs.Sound.{StandsFor}
 use Rattle.ds_image.specs.declared.asks.Ask.{Ask}
@@ -16,12 +17,6 @@ use Rattle.ds_image.proofs.Seeing.{sector_in-append}
 use Rattle.ds_tree.specs.Nodes.{FileTree}
 use Rattle.ds_tree.specs.declared.calls.CallOf.{CallOf}
 use Rattle.std.specs.Prelude.{⊤}
-
--- the call holds the guard of each sector that it has read, by each image that stands for a tree and agrees with what was seen
-abbrev pub AllGuarded : Geom → SeenValue → Type 0
-AllGuarded g seen =
-    (image : List Sector) (t : FileTree) → StandsFor g image t → Agrees seen image
-    → (at : ℕ) (s : Sector) → look_of seen at ≡ Some s → IsGuarded g seen image at
 
 -- what is asked for was not seen before
 abbrev pub IsFresh : SeenValue → Ask → Type 0

@@ -21,6 +21,7 @@ pub mod Parents
 pub mod Parts
 pub mod Pending
 pub mod Planning
+pub mod Reaching
 pub mod ReadTrees
 pub mod Readings
 pub mod Replaced
