@@ -1,7 +1,6 @@
 -- The words of calls, looked up in their table.
-use Rattle.std.proofs.Common.{◌≡◌, ℕ, Bool, true, false, cond, ◌||◌, List, [], ◌∷◌, Option, Some, None, refl, map}
+use Rattle.std.proofs.Common.{◌≡◌, ℕ, Bool, true, false, cond, ◌||◌, List, [], ◌∷◌, Option, Some, refl, map}
 use Rattle.std.specs.Prelude.{find, is_some}
-use Rattle.std.specs.List.{list_any}
 use Rattle.std.specs.Str.{bytes_eq}
 use Rattle.ds_tree.specs.declared.call_kinds.CallKind.{CallKind}
 use Rattle.ds_tree.specs.CallKinds.{all_kinds, kind_word, kind_named}

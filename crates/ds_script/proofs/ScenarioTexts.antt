@@ -1,5 +1,5 @@
 -- A text as a scenario: what is told of it, by its reading and its plain pass, is its one answer.
-use Rattle.std.proofs.Common.{◌≡◌, ℕ, ◌≤◌, ◌<◌, ◌⊎◌, inl, inr, List, length, Result, Ok, Err, subst, arith}
+use Rattle.std.proofs.Common.{◌≡◌, ℕ, ◌≤◌, ◌<◌, inl, inr, List, length, Result, Ok, Err, subst, arith}
 use Rattle.std.proofs.lemmas.Bool.{cases_lt}
 use Rattle.ds_layout.specs.Places.{total_of}
 use Rattle.ds_tree.specs.declared.scenarios.Scenario.{Scenario}

@@ -10,7 +10,7 @@ use Rattle.ds_script.specs.declared.faults.ScriptFault.{ScriptFault}
 use Rattle.ds_script.specs.declared.faults.What.{What}
 use Rattle.ds_script.specs.declared.faults.What.TheVariants.{Volume}
 use Rattle.ds_script.specs.Answers.{HasBadLine, IsTooLarge, IsAnswer, IsVolumeAnswer}
-use Rattle.ds_script.specs.Faults.{Judge, in_scenario, in_volume, most_sectors}
+use Rattle.ds_script.specs.Faults.{Judge, most_sectors}
 
 -- a text spells at most one scenario
 abbrev pub SpellsOneScenario : Type 0

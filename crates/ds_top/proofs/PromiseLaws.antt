@@ -1,8 +1,7 @@
 -- What the parts of a replay come to.
-use Rattle.std.proofs.Common.{◌≡◌, ℕ, List, length, get_or, ap, sym, subst, ◌∙◌, arith, Some}
+use Rattle.std.proofs.Common.{◌≡◌, ℕ, List, length, ap, sym, subst, ◌∙◌, arith, Some}
 use Rattle.std.specs.Prelude.{slice_get}
 use Rattle.std.proofs.Math.Seq.{take-length}
-use Rattle.std.proofs.lemmas.Option.{slice_get-get_or}
 use Rattle.ds_base.specs.declared.geometry.Geom.{Geom}
 use Rattle.ds_tree.specs.declared.scenarios.Scenario.{Scenario}
 use Rattle.ds_tree.specs.Nodes.{FileTree}
@@ -17,15 +16,8 @@ use Rattle.ds_world.specs.Headline.{StandsAfter, Headline}
 use Rattle.ds_world.specs.Scripts.{calls_of}
 use Rattle.ds_world.specs.Follows.{Follows, IsAtEnd, InReplayOrder}
 use Rattle.ds_world.specs.FirstRules.{first_rules}
-use Rattle.ds_report.specs.Report.{report_of, AreInOrder}
+use Rattle.ds_report.specs.Report.{report_of}
 use Rattle.ds_top.specs.Promise.{IsReplayOf}
-
--- the replies of a log that follows a scenario are in the order of their events
-pub in_order : (s : Scenario) (events : List Event) (replies : List Reply) → Follows first_rules.start s events replies → AreInOrder replies
-in_order s events replies follows i j d less within =
-    let first = slice_get-get_or replies i d (omega arith) in
-    let second = slice_get-get_or replies j d within in
-    follows.rising i j (get_or replies i d) (get_or replies j d) less first second
 
 -- the tree of the last commit is the one for which the device stands at the end
 last_of : (g : Geom) (calls : Calls) (events : List Event) (replies : List Reply) (h : Headline first_rules g calls events replies) (t : FileTree)

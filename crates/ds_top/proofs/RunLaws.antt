@@ -259,6 +259,7 @@ run_on input taken taken' why log it = record {
   runnable = it.makes.1.runnable;
   is_log = it.makes.1.is_log;
   replay = it.makes.1.replay;
+  told = ⊎_elim (λ (e : why ≡ it.made). inl (e ∙ it.makes.0)) (λ e. inr e) it.told;
   written = it.written;
 }
 
@@ -285,6 +286,7 @@ format_on input taken taken' why log it = record {
   sectors = it.makes.2.sectors;
   is_text = it.makes.2.is_text;
   formatted = it.makes.2.formatted;
+  told = ⊎_elim (λ (e : why ≡ it.made). inl (e ∙ it.makes.0)) (λ e. inr e) it.told;
   written = subst (λ (text : List ℕ). Wrote why taken taken' text) it.makes.2.is_bytes it.written;
 }
 

@@ -42,7 +42,8 @@ abbrev pub Wrote : Why → Option (List ℕ) → Option (List ℕ) → List ℕ 
 Wrote WriteFault old new text = ExtendsByPart old new text
 Wrote _ old new text = Extends old new text
 
--- the bytes are the text of a scenario that can be run; the log is that of a whole replay of it; and what was written is its report
+-- the bytes are the text of a scenario that can be run; the log is that of a whole replay of it; what was written is its report;
+-- and the run is done, or the sink failed
 pub record IsRunOn (input : List ℕ) (taken taken' : Option (List ℕ)) (why : Why) (log : Option LogValue) : Type 0 where
   pub scenario : Scenario
   pub kept : LogValue
@@ -50,6 +51,7 @@ pub record IsRunOn (input : List ℕ) (taken taken' : Option (List ℕ)) (why : 
   pub runnable : IsRunnable input scenario
   pub is_log : log ≡ Some kept
   pub replay : IsReplayOf scenario kept text
+  pub told : (why ≡ Done) ⊎ (why ≡ WriteFault)
   pub written : Wrote why taken taken' text
 
 -- all bytes of the source were read, and this holds of them
@@ -58,13 +60,14 @@ pub record OfInput (left left' : Option (List ℕ)) (P : List ℕ → Type 0) : 
   pub read : IsReadWhole left left' input
   pub holds : P input
 
--- the bytes are the text of a volume, and what was written is the bytes of its sectors
+-- the bytes are the text of a volume, what was written is the bytes of its sectors, and the run is done, or the sink failed
 pub record IsFormatOn (input : List ℕ) (taken taken' : Option (List ℕ)) (why : Why) : Type 0 where
   pub id : List ℕ
   pub geom : Geom
   pub sectors : List Sector
   pub is_text : IsVolumeText input id geom
   pub formatted : IsFormatted geom id sectors
+  pub told : (why ≡ Done) ⊎ (why ≡ WriteFault)
   pub written : Wrote why taken taken' (bytes_of sectors)
 
 -- the bytes are the sectors of a volume, and what was written is the text of what is found in them

@@ -2,53 +2,40 @@
 ghost use Rattle.std.specs.Prelude.{◌≡◌, ◌≤◌, [], MatchResult, IfOk, None, length};
 ghost use Rattle.ds_base.specs.declared.sectors.Sector.{Sector};
 ghost use Rattle.ds_check.specs.Volumes.{AreOfVolume};
-ghost use Rattle.ds_top.specs.declared.commands.Command.{Command};
 ghost use Rattle.ds_top.specs.Images.{IsTreeOf, IsListing};
-ghost use Rattle.ds_top.specs.Runs.{IsMade, IsRefused, IsMadeOfImage, IsRefusedOfImage, StandVolume, TellsTree, bytes_in};
+ghost use Rattle.ds_top.specs.Runs.{IsMadeOfImage, IsRefusedOfImage, StandVolume, TellsTree, bytes_in};
 
-use crate::checking::{report_of, told};
-use crate::image_input::{ImageRead, read_image};
+use crate::checking::{find_all, tell};
+use crate::image_input::ImageRead;
 use crate::outcome::Why;
-use crate::output::{Body, Output};
-use ds_base::{Geom, NoMemory, Sector, Source};
+use crate::output::Output;
+use ds_base::{Geom, NoMemory, Sector};
 use ds_image::{ImageFault, overlay, read_tree};
 use ds_layout::decode_vol;
 use ds_report::listing;
 use ds_tree::Tree;
 use std::alloc::Global;
 
-/// Reads an image, and makes the listing of its file tree, or else the report of what is at odds in it.
-pub(crate) fn read_and_list<S: Source>(alloc: Global, source: &mut S) -> Result<Output, Why>
-    ensures { MatchResult result
-        (λ it. IsMade Command.Tree (S.left source.old) (S.left source.new) it.why it.log (bytes_in it.body))
-        (λ why. IsRefused Command.Tree (S.left source.old) (S.left source.new) (S.faults source.old) (S.faults source.new) why) }
-{
-    match read_image(alloc, source) {
-        Ok(image) => list_image(alloc, &image),
-        Err(fault) => Err(Why::from(fault)),
-    }
-}
-
-/// The listing of an image's file tree, or else the report of what is at odds in it.
-fn list_image(alloc: Global, image: &ImageRead) -> Result<Output, Why>
+/// Makes the listing of an image's file tree, or else the report of what is at odds in it.
+pub(crate) fn list_image(alloc: Global, image: &ImageRead) -> Result<Output, Why>
     requires { length image.now.sectors.items ≤ 131072 }
     ensures { MatchResult result
         (λ it. IsMadeOfImage TellsTree image.now.sectors.items image.now.left_over it.why it.log (bytes_in it.body))
         (λ why. IsRefusedOfImage image.now.sectors.items image.now.left_over why) }
 {
-    match report_of(alloc, image) {
+    match find_all(alloc, image) {
         Ok(report) => {
             if report.findings().is_empty() {
                 list_volume(alloc, image.sectors.as_slice())
             } else {
-                told(&report)
+                tell(&report)
             }
         }
         Err(why) => Err(why),
     }
 }
 
-/// The listing of the file tree of a volume.
+/// Makes the listing of the file tree of a volume.
 fn list_volume(alloc: Global, sectors: &[Sector]) -> Result<Output, Why>
     requires { StandVolume sectors.now }
     ensures { MatchResult result
@@ -57,20 +44,10 @@ fn list_volume(alloc: Global, sectors: &[Sector]) -> Result<Output, Why>
 {
     match tree_of(alloc, sectors) {
         Ok(tree) => match listing(alloc, &tree) {
-            Ok(text) => Ok(whole(text)),
+            Ok(text) => Ok(Output::text(Why::Done, None, text)),
             Err(_) => Err(Why::Memory),
         },
         Err(_) => Err(Why::Memory),
-    }
-}
-
-fn whole(text: Vec<u8>) -> Output
-    ensures { result ≡ record { why = Why.Done; log = None; body = Body.Text text } }
-{
-    Output {
-        why: Why::Done,
-        log: None,
-        body: Body::Text(text),
     }
 }
 

@@ -24,6 +24,32 @@ pub(crate) struct Output {
     pub(crate) body: Body,
 }
 
+impl Output {
+    ghost use Rattle.std.specs.Prelude.{◌≡◌, None};
+
+    /// The output of a run that ends so once this text is written, with the log of its replay if it made one.
+    pub(crate) fn text(why: Why, log: Option<Log>, text: Vec<u8>) -> Output
+        ensures { result ≡ record { why = why; log = log; body = Body.Text text } }
+    {
+        Output {
+            why,
+            log,
+            body: Body::Text(text),
+        }
+    }
+
+    /// The output of a run that is done once these sectors are written.
+    pub(crate) fn sectors(sectors: Vec<Sector>) -> Output
+        ensures { result ≡ record { why = Why.Done; log = None; body = Body.Sectors sectors } }
+    {
+        Output {
+            why: Why::Done,
+            log: None,
+            body: Body::Sectors(sectors),
+        }
+    }
+}
+
 /// The bytes of an output.
 #[derive(Drop)]
 pub(crate) enum Body {
@@ -32,7 +58,7 @@ pub(crate) enum Body {
 }
 
 /// Writes the output of a run.
-pub(crate) fn written<K: Sink>(output: Output, sink: &mut K) -> Outcome
+pub(crate) fn write_output<K: Sink>(output: Output, sink: &mut K) -> Outcome
     ensures status { result.status ≡ status_of result.why }
     ensures log { result.log ≡ output.log }
     ensures writes { Writes output.why (bytes_in output.body) (K.taken sink.old) (K.taken sink.new)

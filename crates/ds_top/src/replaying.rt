@@ -1,52 +1,39 @@
 //! The replay of a scenario.
-ghost use Rattle.std.specs.Prelude.{◌≡◌, Some, ◌≤◌, IfOk, OnOk, MatchResult, length};
+ghost use Rattle.std.specs.Prelude.{◌≡◌, ◌≤◌, IfOk, OnOk, MatchResult, length};
 ghost use Rattle.ds_tree.specs.FirstForm.{IsFirstForm};
 ghost use Rattle.ds_world.specs.Scripts.{list_of};
 ghost use Rattle.ds_script.specs.Answers.{IsScenarioText};
 ghost use Rattle.ds_top.specs.declared.commands.Command.{Command};
 ghost use Rattle.ds_top.specs.Causes.{IsRunnable};
 ghost use Rattle.ds_top.specs.Promise.{IsReplayOf};
-ghost use Rattle.ds_top.specs.Runs.{IsCaused, IsMade, IsRefused, IsMadeOf, IsRefusedOf, bytes_in};
+ghost use Rattle.ds_top.specs.Runs.{IsCaused, IsMadeOf, IsRefusedOf, bytes_in};
 
-use crate::input::{MOST_BYTES, read_all};
 use crate::outcome::Why;
-use crate::output::{Body, Output};
-use ds_base::{NoMemory, Source};
+use crate::output::Output;
+use ds_base::NoMemory;
 use ds_script::read;
 use ds_tree::Scenario;
 use ds_world::{FirstWorld, Log, Moved, not_built};
 use std::alloc::Global;
 
-/// Reads a scenario, and makes the report of its replay.
-pub(crate) fn read_and_replay<S: Source>(alloc: Global, source: &mut S) -> Result<Output, Why>
-    ensures { MatchResult result
-        (λ it. IsMade Command.Replay (S.left source.old) (S.left source.new) it.why it.log (bytes_in it.body))
-        (λ why. IsRefused Command.Replay (S.left source.old) (S.left source.new) (S.faults source.old) (S.faults source.new) why) }
-{
-    match read_all(alloc, source, MOST_BYTES) {
-        Ok(bytes) => replay_text(alloc, bytes.as_slice()),
-        Err(fault) => Err(Why::from(fault)),
-    }
-}
-
-/// The report of the replay of the scenario that these bytes are.
-fn replay_text(alloc: Global, bytes: &[u8]) -> Result<Output, Why>
+/// Makes the report of the replay of the scenario that these bytes are.
+pub(crate) fn replay_text(alloc: Global, bytes: &[u8]) -> Result<Output, Why>
     ensures { MatchResult result
         (λ it. IsMadeOf Command.Replay bytes.now it.why it.log (bytes_in it.body))
         (λ why. IsRefusedOf Command.Replay bytes.now why) }
 {
-    let scenario = match scenario_of(alloc, bytes) {
+    let scenario = match read_scenario(alloc, bytes) {
         Ok(scenario) => scenario,
         Err(why) => return Err(why),
     };
-    match replay_of(alloc, &scenario) {
-        Ok(it) => Ok(report(it)),
+    match replay_scenario(alloc, &scenario) {
+        Ok(it) => Ok(Output::text(Why::Done, Some(it.log), it.text)),
         Err(_) => Err(Why::Memory),
     }
 }
 
-/// The scenario that these bytes are, where it can be run now.
-fn scenario_of(alloc: Global, bytes: &[u8]) -> Result<Scenario, Why>
+/// Reads the scenario that these bytes are, where it can be run now.
+fn read_scenario(alloc: Global, bytes: &[u8]) -> Result<Scenario, Why>
     ensures { MatchResult result
         (λ s. IsRunnable bytes.now s × IsCaused Command.Replay bytes.now Why.Done)
         (λ why. IsRefusedOf Command.Replay bytes.now why) }
@@ -71,19 +58,8 @@ struct Replay {
     text: Vec<u8>,
 }
 
-fn report(it: Replay) -> Output
-    ensures { result ≡ record { why = Why.Done; log = Some it.log; body = Body.Text it.text } }
-{
-    let Replay { log, text } = it;
-    Output {
-        why: Why::Done,
-        log: Some(log),
-        body: Body::Text(text),
-    }
-}
-
 /// Replays a scenario to the end of every host's list.
-fn replay_of(alloc: Global, scenario: &Scenario) -> Result<Replay, NoMemory>
+fn replay_scenario(alloc: Global, scenario: &Scenario) -> Result<Replay, NoMemory>
     requires { IsFirstForm scenario.now }
     ensures { IfOk result (λ it. IsReplayOf scenario.now it.log it.text.items) }
 {

@@ -10,13 +10,15 @@ ghost use Rattle.ds_top.specs.Runs.{IsMade, IsRefused, Ends, bytes_in};
 ghost use Rattle.ds_top.specs.declared.commands.Command.{Command};
 ghost use Rattle.ds_top.specs.declared.outcome.Why.{Why};
 
-use crate::checking::read_and_check;
+use crate::checking::check_image;
 use crate::commands::Command;
-use crate::formatting::read_and_format;
-use crate::listing::read_and_list;
+use crate::formatting::format_text;
+use crate::image_input::read_image;
+use crate::input::{MOST_BYTES, read_all};
+use crate::listing::list_image;
 use crate::outcome::{Outcome, Why, refused};
-use crate::output::{Output, written};
-use crate::replaying::read_and_replay;
+use crate::output::{Output, write_output};
+use crate::replaying::replay_text;
 use ds_base::{Sink, Source};
 use std::alloc::Global;
 
@@ -58,13 +60,13 @@ pub fn plain<S: Source, K: Sink>(
     ensures refused { IsRefusal result.why → (K.taken sink.new ≡ K.taken sink.old) × (result.log ≡ None) }
 {
     match Command::of(words) {
-        Some(command) => carried_out(alloc, command, source, sink),
+        Some(command) => execute(alloc, command, source, sink),
         None => refused(Why::BadWords),
     }
 }
 
-/// Carries out a command.
-fn carried_out<S: Source, K: Sink>(
+/// Carries out a command: reads its input, makes its output and writes it.
+fn execute<S: Source, K: Sink>(
     alloc: Global,
     command: Command,
     source: &mut S,
@@ -74,22 +76,34 @@ fn carried_out<S: Source, K: Sink>(
     ensures ends { Ends command (S.left source.old) (S.left source.new) (S.faults source.old) (S.faults source.new)
         (K.taken sink.old) (K.taken sink.new) (K.faults sink.old) (K.faults sink.new) result.why result.log }
 {
-    match output_of(alloc, command, source) {
-        Ok(output) => written(output, sink),
+    match make_output(alloc, command, source) {
+        Ok(output) => write_output(output, sink),
         Err(why) => refused(why),
     }
 }
 
 /// Reads the input of a command, and makes its output.
-fn output_of<S: Source>(alloc: Global, command: Command, source: &mut S) -> Result<Output, Why>
+fn make_output<S: Source>(alloc: Global, command: Command, source: &mut S) -> Result<Output, Why>
     ensures { MatchResult result
         (λ it. IsMade command (S.left source.old) (S.left source.new) it.why it.log (bytes_in it.body))
         (λ why. IsRefused command (S.left source.old) (S.left source.new) (S.faults source.old) (S.faults source.new) why) }
 {
     match command {
-        Command::Replay => read_and_replay(alloc, source),
-        Command::Format => read_and_format(alloc, source),
-        Command::Check => read_and_check(alloc, source),
-        Command::Tree => read_and_list(alloc, source),
+        Command::Replay => {
+            let bytes = read_all(alloc, source, MOST_BYTES)?;
+            replay_text(alloc, bytes.as_slice())
+        }
+        Command::Format => {
+            let bytes = read_all(alloc, source, MOST_BYTES)?;
+            format_text(alloc, bytes.as_slice())
+        }
+        Command::Check => {
+            let image = read_image(alloc, source)?;
+            check_image(alloc, &image)
+        }
+        Command::Tree => {
+            let image = read_image(alloc, source)?;
+            list_image(alloc, &image)
+        }
     }
 }

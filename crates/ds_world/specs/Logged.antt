@@ -1,5 +1,5 @@
 -- The order of the replies of a log.
-use Rattle.std.specs.Prelude.{ℕ, ◌<◌, List, length, All, AllPairs}
+use Rattle.std.specs.Prelude.{◌<◌, List, length, All, AllPairs}
 use Rattle.ds_world.specs.declared.logs.Event.{Event}
 use Rattle.ds_world.specs.declared.logs.Reply.{Reply}
 

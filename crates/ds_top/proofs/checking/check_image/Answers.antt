@@ -11,4 +11,4 @@ returns-in-Ok c =
     let sectors = c.args.image.now.sectors.items in
     let left_over = c.args.image.now.left_over in
     result_map _ _ _ _ _ (λ (it : Output) made. finds_made sectors left_over c.in-Ok.report it.why it.log (bytes_in it.body) c.in-Ok.ensures made)
-    (λ why is. subst (λ (w : Why). IsRefusedOfImage sectors left_over w) (sym is) (memory_refused_image sectors left_over)) c.told.ensures
+    (λ why is. subst (λ (w : Why). IsRefusedOfImage sectors left_over w) (sym is) (memory_refused_image sectors left_over)) c.tell.ensures

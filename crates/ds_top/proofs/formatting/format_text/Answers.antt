@@ -14,7 +14,7 @@ returns-in-Err c =
 pub returns-in-Ok-format : goal.returns-in-Ok-format
 returns-in-Ok-format c =
     let volume = c.in-Ok.volume in
-    subst (λ (it : Output). IsMadeOf Format c.args.bytes.now it.why it.log (bytes_in it.body)) (sym c.image.ensures) (record {
+    subst (λ (it : Output). IsMadeOf Format c.args.bytes.now it.why it.log (bytes_in it.body)) (sym c.sectors.ensures) (record {
       makes = (
         refl,
         refl,

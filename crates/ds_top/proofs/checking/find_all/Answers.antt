@@ -4,7 +4,7 @@ use Rattle.ds_top.specs.declared.outcome.Why.{Why}
 use Rattle.ds_top.specs.declared.outcome.Why.TheVariants.{BadImage}
 use Rattle.ds_top.specs.Runs.{IsRefusedOfImage, AreFound}
 use Rattle.ds_top.proofs.CheckLaws.{are_found, behind_refused, check_refused}
-use Rattle.ds_top.proofs.checking.report_of.Goals as goal
+use Rattle.ds_top.proofs.checking.find_all.Goals as goal
 
 pub returns-then-image-gt0 : goal.returns-then-image-gt0
 returns-then-image-gt0 c =

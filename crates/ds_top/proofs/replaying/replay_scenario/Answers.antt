@@ -6,10 +6,10 @@ use Rattle.ds_world.specs.Store.{store}
 use Rattle.ds_world.specs.FirstRules.{first_rules}
 use Rattle.ds_world.proofs.FirstStart.{first_geom-is}
 use Rattle.ds_top.proofs.PromiseLaws.{replayed}
-use Rattle.ds_top.proofs.replaying.replay_of.Goals as goal
+use Rattle.ds_top.proofs.replaying.replay_scenario.Goals as goal
 
-pub text-requires-clause-geometry : goal.text-requires-clause-geometry
-text-requires-clause-geometry c = subst IsGeom (sym c.requires.geom) first_geom-is
+pub text-requires : goal.text-requires
+text-requires c = subst IsGeom (sym c.requires.geom) first_geom-is
 
 pub returns : goal.returns
 returns c =

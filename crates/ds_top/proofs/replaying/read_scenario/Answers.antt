@@ -4,7 +4,7 @@ use Rattle.ds_top.specs.declared.commands.Command.TheVariants.{Replay}
 use Rattle.ds_top.specs.declared.outcome.Why.{Why}
 use Rattle.ds_top.specs.Runs.{IsRefusedOf}
 use Rattle.ds_top.proofs.CauseLaws.{text_refused, text_read, text_runs, text_not_built}
-use Rattle.ds_top.proofs.replaying.scenario_of.Goals as goal
+use Rattle.ds_top.proofs.replaying.read_scenario.Goals as goal
 
 pub returns-in-Err : goal.returns-in-Err
 returns-in-Err c =
