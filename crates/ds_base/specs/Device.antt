@@ -1,5 +1,6 @@
--- What a command does to a device of 512-byte blocks, and what it answers (SBC-3: READ, WRITE, COMPARE AND WRITE).
--- The offset that is told at a mismatch is this project's profile.
+-- What a command does to a device of 512-byte blocks, and what it answers (SBC-3: READ, WRITE, COMPARE AND WRITE). At a
+-- mismatch SBC-3, "COMPARE AND WRITE command", has the INFORMATION field of the sense data tell the offset of the first
+-- byte that differs.
 use Rattle.std.specs.Prelude.{◌≡◌, ◌≢◌, ℕ, ◌<◌, Bool, true, false, List, length, take, slice_get, slice_set, slice_index, if◌then◌else◌, Option, Some, None}
 use Rattle.std.specs.Str.{bytes_eq}
 use Rattle.ds_base.specs.declared.sectors.Sector.{Sector}
@@ -47,6 +48,10 @@ Answers sectors (Swap at verify fresh) Done = holds_image (slice_get sectors at)
 Answers sectors (Swap at verify fresh) (Miscompare offset) =
     (s : Sector) × (slice_get sectors at ≡ Some s) × IsFirstDifference s.bytes verify.bytes offset
 Answers sectors _ _ = ⊥
+
+-- whatever answers a command is this response
+abbrev pub IsTheAnswer : List Sector → Command → Response → Type 0
+IsTheAnswer sectors command response = (other : Response) → Answers sectors command other → response ≡ other
 
 -- a response that fits a command, whatever the device holds
 abbrev pub Fits : Command → Response → Type 0

@@ -1,5 +1,6 @@
 pub mod Decoding
 pub mod Device
+pub mod Exchanges
 pub mod Geometry
 pub mod Identity
 pub mod Memory

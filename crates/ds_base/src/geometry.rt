@@ -1,7 +1,16 @@
 //! The shape of a volume.
 ghost use Rattle.std.specs.Prelude.{◌≡◌, ◌≤◌, ◌<◌, ◌⊎◌, MatchResult, OnOk, IfErr};
-ghost use Rattle.ds_base.specs.Geometry.{IsGeom, IsFirstBadField, InRange, IsFirstBadOfKind};
+ghost use Rattle.ds_base.specs.Geometry.{
+  IsGeom,
+  IsFirstBadField,
+  InRange,
+  IsFirstBadOfKind,
+  clusters_of,
+  per_cluster,
+  items_of,
+};
 
+use crate::limits::{MOST_BLOCK_SECTORS, MOST_ITEMS};
 use thiserror::Error;
 
 /// A kind of resource: file descriptors, sub-blocks, pointer blocks and file blocks.
@@ -47,11 +56,32 @@ impl Geom {
         ensures { MatchResult result (λ _. IsGeom self.now) (λ bad. IsFirstBadField self.now bad.field) }
     {
         in_range(GeomField::Slots, u16::from(self.slots), 16)?;
-        in_range(GeomField::Block, self.block, 2048)?;
+        in_range(GeomField::Block, self.block, MOST_BLOCK_SECTORS)?;
         self.check_kind(Kind::Fd)?;
         self.check_kind(Kind::Sb)?;
         self.check_kind(Kind::Pb)?;
         self.check_kind(Kind::Fb)
+    }
+
+    /// The clusters of a kind.
+    pub fn clusters(&self, kind: Kind) -> u8
+        ensures { result ≡ clusters_of self.now kind }
+    {
+        self.clusters[kind as usize]
+    }
+
+    /// The items of each cluster of a kind.
+    pub fn items_per_cluster(&self, kind: Kind) -> u16
+        ensures { result ≡ per_cluster self.now kind }
+    {
+        self.items[kind as usize]
+    }
+
+    /// All items of a kind.
+    pub fn items(&self, kind: Kind) -> u32
+        ensures { result ≡ items_of self.now kind }
+    {
+        u32::from(self.clusters(kind)) * u32::from(self.items_per_cluster(kind))
     }
 
     fn check_kind(&self, kind: Kind) -> Result<(), BadGeom>
@@ -61,9 +91,9 @@ impl Geom {
     {
         let (clusters, items, most) = match kind {
             Kind::Fd => (self.clusters[0], self.items[0], 256),
-            Kind::Sb => (self.clusters[1], self.items[1], 3840),
-            Kind::Pb => (self.clusters[2], self.items[2], 3840),
-            Kind::Fb => (self.clusters[3], self.items[3], 3840),
+            Kind::Sb => (self.clusters[1], self.items[1], MOST_ITEMS),
+            Kind::Pb => (self.clusters[2], self.items[2], MOST_ITEMS),
+            Kind::Fb => (self.clusters[3], self.items[3], MOST_ITEMS),
         };
         in_range(GeomField::Clusters(kind), u16::from(clusters), 8)?;
         in_range(GeomField::Items(kind), items, most)

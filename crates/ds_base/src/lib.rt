@@ -4,6 +4,7 @@
 mod commands;
 mod geometry;
 mod identity;
+mod limits;
 mod memory;
 mod names;
 mod outside;
@@ -16,6 +17,10 @@ mod tests;
 pub use commands::{Command, Next, Response};
 pub use geometry::{BadGeom, Geom, GeomField, Kind};
 pub use identity::host_id;
+pub use limits::{
+    ADDRESSES, FIRST_CLUSTER_LOCK, MOST_BIRTH, MOST_BLOCK_SECTORS, MOST_BLOCKS, MOST_ENTRIES,
+    MOST_ITEMS, PAGE,
+};
 pub use memory::{MemSink, MemSource};
 pub use names::{Key, Name, NodeKind, Word};
 pub use outside::{Gave, NoMemory, Sink, Source, Taken};

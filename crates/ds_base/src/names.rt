@@ -108,6 +108,28 @@ impl Name {
         Some(Name { bytes: name })
     }
 
+    /// The name that a word is.
+    pub fn of_word(word: &Word) -> Name
+        requires { IsName word.now }
+        ensures { result ≡ word.now }
+    {
+        let Some(name) = Name::read(word) else {
+            unreachable!()
+        };
+        name
+    }
+
+    /// The same name again; it takes no memory.
+    pub fn copy(&self) -> Name
+        ensures same { result ≡ self.now }
+        ensures named { IsName self.now }
+    {
+        let Some(copy) = Name::from_bytes(self.bytes()) else {
+            unreachable!()
+        };
+        copy
+    }
+
     pub fn bytes(&self) -> &[u8]
         ensures value { result.now ≡ self.now }
         ensures name { IsName result.now }

@@ -2,12 +2,25 @@
 ghost use Rattle.std.specs.Prelude.{◌≡◌, ◌<◌, ◌≤◌, ℕ, min, List, Option, length, take};
 ghost use Rattle.ds_base.specs.Outside.{HasRisen, Gives, Accepts};
 
+use std::alloc::{AllocError, AllocFailed};
 use thiserror::Error;
 
 /// No memory was found.
 #[derive(Clone, Copy, Debug, PartialEq, Eq, Error)]
 #[error("out of memory")]
 pub struct NoMemory;
+
+impl From<AllocError> for NoMemory {
+    fn from(_failed: AllocError) -> NoMemory {
+        NoMemory
+    }
+}
+
+impl<T: Drop> From<AllocFailed<T>> for NoMemory {
+    fn from(_failed: AllocFailed<T>) -> NoMemory {
+        NoMemory
+    }
+}
 
 /// What a call of a source gave: this many bytes, the end, or a fault.
 #[derive(Clone, Copy, Debug, PartialEq, Eq)]

@@ -18,13 +18,13 @@ use Rattle.ds_tree.specs.Counts.{pointer_blocks}
 use Rattle.ds_image.specs.Looks.{Look}
 use Rattle.ds_image.specs.Objects.{addresses_in, subs_by, ptrs_by, blocks_by, tail_by, pointed_by, subs_of, ptrs_of, blocks_of, tail_of}
 use Rattle.ds_image.specs.Parts.{Parts, part_at}
-use Rattle.ds_image.specs.Readings.{Reads}
+use Rattle.ds_image.specs.Readings.{ReadsParts}
 use Rattle.ds_image.specs.Sound.{AreZero}
-use Rattle.ds_image.proofs.Places.{at-append}
-use Rattle.ds_image.proofs.Sizes.{body_is, part_within}
+use Rattle.ds_image.proofs.Spelling.Places.{at-append}
+use Rattle.ds_image.proofs.Spelling.Sizes.{body_is, part_within}
 use Rattle.ds_check.specs.declared.findings.Find.{Find}
 use Rattle.ds_check.specs.declared.findings.Find.TheVariants.{Address, Room}
-use Rattle.ds_check.specs.Objects.{is_outside, is_bad_block, pointed_at, is_bad_address, past_last, first_past, is_first_past, most_addresses, address_finds, misaddressed, room_finds, unroomed, addresses_stage}
+use Rattle.ds_check.specs.Addresses.{is_outside, is_bad_block, pointed_at, is_bad_address, past_last, first_past, is_first_past, most_addresses, address_finds, misaddressed, room_finds, unroomed, addresses_stage}
 use Rattle.ds_check.specs.Rows.{find_if, row}
 use Rattle.ds_check.proofs.CleanMetadata.{some-there, not-false}
 use Rattle.ds_check.proofs.NoFinds.{both-none, not-found, row-none}
@@ -101,7 +101,7 @@ small-pointers n small = rw small refl
 large-pointers : (n : ℕ) → leb n 96 ≡ false → pointer_blocks n ≡ (n + 127) / 128
 large-pointers n large = rw large refl
 
-module _ (g : Geom) (look : Look) (p : Parts) (reads : Reads g look p) (none : addresses_stage g p ≡ [])
+module _ (g : Geom) (look : Look) (p : Parts) (reads : ReadsParts g look p) (none : addresses_stage g p ≡ [])
     (pointers : (n : ℕ) → n < items_of g Pb → length (addresses_in (part_at p.ptrs n)) ≡ 128) where
   stages : (misaddressed g p ≡ []) × (unroomed g p ≡ [])
   stages = both-none (misaddressed g p) (unroomed g p) none

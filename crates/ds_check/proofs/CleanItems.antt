@@ -14,18 +14,20 @@ use Rattle.ds_image.specs.Looks.{Look}
 use Rattle.ds_image.specs.Objects.{subs_of, ptrs_of, blocks_of, is_used}
 use Rattle.ds_image.specs.Owns.{list_of, bit, Owns}
 use Rattle.ds_image.specs.Parts.{Parts, part_at, maps_of, bits_in, AllSpelled}
-use Rattle.ds_image.specs.Readings.{Reads}
+use Rattle.ds_image.specs.Readings.{ReadsParts}
 use Rattle.ds_image.specs.SoundObjects.{IsMarked}
-use Rattle.ds_image.specs.Users.{users, uses_by, AreUsedOnce}
+use Rattle.ds_image.specs.Users.{users, uses_by}
 use Rattle.ds_image.specs.Users as usage
-use Rattle.ds_image.proofs.Listed.{bits_length}
-use Rattle.ds_image.proofs.OwningUsers.{owns-from_users}
-use Rattle.ds_image.proofs.Places.{marked-within}
-use Rattle.ds_image.proofs.SoundParts.{list-is}
+use Rattle.ds_image.proofs.Ownership.Listed.{bits_length}
+use Rattle.ds_image.proofs.Ownership.OwningUsers.{owns-from_users, AreUsedOnce}
+use Rattle.ds_image.proofs.Spelling.Places.{marked-within}
+use Rattle.ds_image.proofs.Spelling.SoundParts.{list-is}
 use Rattle.ds_check.specs.declared.findings.Find.{Find}
 use Rattle.ds_check.specs.declared.findings.Find.TheVariants.{Marked, Unmarked}
-use Rattle.ds_check.specs.Lost.{times}
-use Rattle.ds_check.specs.Objects.{listed_by, uses_of, twice, shared_items, sharing_stage, is_in_use, is_marked, mismarked, marking_stage}
+use Rattle.ds_check.specs.Unreached.{times}
+use Rattle.ds_check.specs.Uses.{listed_by, uses_of}
+use Rattle.ds_check.specs.Sharing.{twice, shared_items, sharing_stage}
+use Rattle.ds_check.specs.Marking.{is_in_use, is_marked, mismarked, marking_stage}
 use Rattle.ds_check.specs.Rows.{find_if, row}
 use Rattle.ds_check.proofs.NoBad.{each_kind}
 use Rattle.ds_check.proofs.NoFinds.{both-none, not-found, row-none}
@@ -122,7 +124,7 @@ bits-same true false p q = absurd (cc)
 bits-same false true p q = absurd (cc)
 bits-same false false p q = refl
 
-module _ (g : Geom) (look : Look) (p : Parts) (reads : Reads g look p) (maps : (kind : Kind) → AllSpelled (maps_of p kind))
+module _ (g : Geom) (look : Look) (p : Parts) (reads : ReadsParts g look p) (maps : (kind : Kind) → AllSpelled (maps_of p kind))
     (sharing : sharing_stage g p ≡ []) (marking : marking_stage g p ≡ []) where
   marks-of : (kind : Kind) (n : ℕ) → n < items_of g kind → is_marked p kind n ≡ is_in_use g p kind n
   marks-of kind n within =

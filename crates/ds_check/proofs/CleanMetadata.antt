@@ -11,10 +11,10 @@ use Rattle.ds_base.specs.declared.names.NodeKind.TheVariants as kinds
 use Rattle.ds_fd.specs.declared.body.Body.{Body}
 use Rattle.ds_image.specs.Looks.{Look}
 use Rattle.ds_image.specs.Parts.{Parts, part_at, maps_of, AllSpelled}
-use Rattle.ds_image.specs.Readings.{Reads}
+use Rattle.ds_image.specs.Readings.{ReadsParts}
 use Rattle.ds_image.specs.Rooted.{HasRoot}
 use Rattle.ds_check.specs.declared.findings.Find.TheVariants.{Root}
-use Rattle.ds_check.specs.Objects.{bitmap_form, body_form, unread, is_dir, is_root, root_finds, metadata_stage}
+use Rattle.ds_check.specs.Metadata.{bitmap_form, body_form, unread, is_dir, is_root, root_finds, metadata_stage}
 use Rattle.ds_check.specs.Rows.{row, row_of_kinds}
 use Rattle.ds_check.proofs.NoBad.{each_kind}
 use Rattle.ds_check.proofs.NoFinds.{both-none, not-found, row-none}
@@ -43,7 +43,7 @@ root-there p (Some b) there is =
     let both = both-true (is_dir b.kind) (b.birth == 1) is in
     record { body = b; there = there; kind = dir-kind b.kind both.0; birth = eqb-true b.birth 1 both.1 }
 
-module _ (g : Geom) (look : Look) (p : Parts) (reads : Reads g look p) (none : metadata_stage g p ≡ []) where
+module _ (g : Geom) (look : Look) (p : Parts) (reads : ReadsParts g look p) (none : metadata_stage g p ≡ []) where
   unread-none : unread g p ≡ []
   unread-none = (both-none (unread g p) (root_finds p) none).0
 

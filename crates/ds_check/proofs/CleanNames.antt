@@ -24,16 +24,16 @@ use Rattle.ds_image.specs.Parts.{Parts, part_at}
 use Rattle.ds_image.specs.Rooted.{named_bits}
 use Rattle.ds_image.specs.Sound.{IsNamedRight, rooms_used_by}
 use Rattle.ds_image.specs.SoundObjects.{AreNamesApart}
-use Rattle.ds_image.specs.Users.{users, AreUsedOnce}
+use Rattle.ds_image.specs.Users.{users}
 use Rattle.ds_image.specs.Users as usage
-use Rattle.ds_image.proofs.NamesApart.{apart-none}
-use Rattle.ds_image.proofs.OwningUsers.{owns-from_users}
-use Rattle.ds_image.proofs.RootedTrees.{named_bit}
-use Rattle.ds_image.proofs.ReachedObjects.{used-within}
+use Rattle.ds_image.proofs.FileTrees.NamesApart.{apart-none}
+use Rattle.ds_image.proofs.Ownership.OwningUsers.{owns-from_users, AreUsedOnce}
+use Rattle.ds_image.proofs.FileTrees.RootedTrees.{named_bit}
+use Rattle.ds_image.proofs.Parenthood.ReachedObjects.{used-within}
 use Rattle.ds_check.specs.declared.findings.Find.TheVariants as finds
-use Rattle.ds_check.specs.Lost.{times}
-use Rattle.ds_check.specs.Naming.{misnamed_at}
-use Rattle.ds_check.specs.Objects.{same_kind, is_body_of, is_dangling, has_name, is_named_in, named_in, all_named, names_of, wanted_names, rooms_at, naming_stage}
+use Rattle.ds_check.specs.Unreached.{times}
+use Rattle.ds_check.specs.Names.{misnamed_at, named_in, all_named, names_of, wanted_names, naming_stage}
+use Rattle.ds_check.specs.Entries.{same_kind, is_body_of, is_dangling, has_name, is_named_in, rooms_at}
 use Rattle.ds_check.proofs.CleanItems.{users-listed, uses-same, listed-absent}
 use Rattle.ds_check.proofs.CleanMetadata.{not-false, both-true}
 use Rattle.ds_check.proofs.EntryRooms.{kept-some}

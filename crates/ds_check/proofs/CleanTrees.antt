@@ -11,16 +11,20 @@ use Rattle.ds_image.specs.ImageValues.{IsImage}
 use Rattle.ds_image.specs.Logical.{IsLogical}
 use Rattle.ds_image.specs.Objects.{addresses_in, is_used, tree_of, subs_of, ptrs_of}
 use Rattle.ds_image.specs.Parts.{Parts, part_at}
-use Rattle.ds_image.specs.Readings.{Reads}
+use Rattle.ds_image.specs.Readings.{ReadsParts}
 use Rattle.ds_image.specs.ReadTrees.{StandsForNone}
 use Rattle.ds_image.specs.Rooted.{IsRooted}
 use Rattle.ds_image.specs.Sound.{IsSound, IsNamedRight, rooms_used_by, StandsFor}
 use Rattle.ds_image.specs.SoundObjects.{IsSoundObject}
-use Rattle.ds_image.proofs.SoundParts.{sound-from, all-from_at}
-use Rattle.ds_image.proofs.TreesThatStand.{tree-from_rooted}
+use Rattle.ds_image.proofs.Spelling.SoundParts.{sound-from, all-from_at}
+use Rattle.ds_image.proofs.FileTrees.TreesThatStand.{tree-from_rooted}
 use Rattle.ds_check.specs.Checks.{StandsForTree, VolumeStands}
 use Rattle.ds_check.specs.Findings.{AreLost, AreFoundOrLost, AreFoundIn, found_in}
-use Rattle.ds_check.specs.Objects.{metadata_stage, addresses_stage, sharing_stage, marking_stage, naming_stage}
+use Rattle.ds_check.specs.Metadata.{metadata_stage}
+use Rattle.ds_check.specs.Addresses.{addresses_stage}
+use Rattle.ds_check.specs.Sharing.{sharing_stage}
+use Rattle.ds_check.specs.Marking.{marking_stage}
+use Rattle.ds_check.specs.Names.{naming_stage}
 use Rattle.ds_check.specs.Rows.{first_found}
 use Rattle.ds_check.specs.Volumes.{AreOfVolume}
 use Rattle.ds_check.specs.declared.findings.Find.{Find}
@@ -68,7 +72,7 @@ nothing-lost p lost o used = elim (lost.rest o used) [
   | inr reached ↦ reached
 ]
 
-module _ (g : Geom) (image : List Sector) (p : Parts) (is : IsImage g image) (reads : Reads g (slice_get image) p) (clean : AreClean g p) where
+module _ (g : Geom) (image : List Sector) (p : Parts) (is : IsImage g image) (reads : ReadsParts g (slice_get image) p) (clean : AreClean g p) where
   pointers : (n : ℕ) → n < items_of g Pb → length (addresses_in (part_at p.ptrs n)) ≡ 128
   pointers n within = let there = pointer-there g image p is reads n within in ap (λ r. length (addresses_in r)) there.1 ∙ there.2
 
@@ -105,7 +109,7 @@ module _ (g : Geom) (image : List Sector) (p : Parts) (is : IsImage g image) (re
       record { parts = p; whole = omega (arith, is.size); reads = reads; sound = parts-sound; tree = refl; is_tree = tree-from_rooted g (slice_get image) p reads parts-sound rooted }
 
 pub stands-found : (g : Geom) (sectors image : List Sector) (p : Parts) (finds : List Find) → HasNoBad g sectors → IsLogical g sectors image → IsImage g image
-    → Reads g (slice_get image) p → AreFoundIn g p finds → finds ≡ [] → StandsForTree g sectors
+    → ReadsParts g (slice_get image) p → AreFoundIn g p finds → finds ≡ [] → StandsForTree g sectors
 stands-found g sectors image p finds good logical is reads found none =
     let nothing = nothing-before p (found_in g p) (subst (AreFoundIn g p) none found) in
     record { good = good; image = image; is_logical = logical; tree = tree_of p; stands = stands-clean g image p is reads (all-clean g p nothing.0) nothing.1 }

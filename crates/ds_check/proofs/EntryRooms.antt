@@ -9,8 +9,8 @@ use Rattle.std.proofs.lemmas.Bool.{cases_Bool, cases_eq, eq-eqb, ne_eqb}
 use Rattle.std.proofs.lemmas.List.Sums.{sum_by-cons}
 use Rattle.std.proofs.lemmas.Map.Text.{is_eq-slice_cmp}
 use Rattle.ds_dir.specs.declared.sub_block.Entry.{Entry}
-use Rattle.ds_check.specs.Lost.{times}
-use Rattle.ds_check.specs.Objects.{has_name}
+use Rattle.ds_check.specs.Unreached.{times}
+use Rattle.ds_check.specs.Entries.{has_name}
 
 -- the object of a name in these rooms
 abbrev pub found_in : List ℕ → List (Option Entry) → Option ℕ

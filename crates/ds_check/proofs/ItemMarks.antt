@@ -12,7 +12,7 @@ use Rattle.ds_image.specs.Owns.{bit}
 use Rattle.ds_image.specs.Parts.{Parts, bits_in, maps_of}
 use Rattle.ds_check.specs.declared.findings.Find.{Find}
 use Rattle.ds_check.specs.declared.findings.Find.TheVariants.{Marked, Unmarked}
-use Rattle.ds_check.specs.Objects.{is_in_use, mismarked}
+use Rattle.ds_check.specs.Marking.{is_in_use, mismarked}
 use Rattle.ds_check.specs.Rows.{find_if, row}
 
 -- an item has a first user where it has users

@@ -11,7 +11,7 @@ use Rattle.std.proofs.lemmas.List.FromFn.{map-range_with_len_more}
 use Rattle.ds_base.specs.declared.geometry.Kind.{Kind}
 use Rattle.ds_image.specs.Users.{users, uses_by, KnowsUsers}
 use Rattle.ds_check.specs.declared.findings.Find.TheVariants.{Twice}
-use Rattle.ds_check.specs.Objects.{twice}
+use Rattle.ds_check.specs.Sharing.{twice}
 
 -- Uses that are not noted
 

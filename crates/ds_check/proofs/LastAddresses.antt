@@ -10,8 +10,7 @@ use Rattle.ds_image.specs.Parts.{Parts}
 use Rattle.ds_tree.specs.Counts.{pointer_blocks}
 use Rattle.ds_check.specs.declared.findings.Find.{Find}
 use Rattle.ds_check.specs.declared.findings.Find.TheVariants.{Address}
-use Rattle.ds_check.specs.Addresses.{address_at}
-use Rattle.ds_check.specs.Objects.{is_outside, is_bad_address, past_last, first_past, most_addresses}
+use Rattle.ds_check.specs.Addresses.{address_at, is_outside, is_bad_address, past_last, first_past, most_addresses}
 use Rattle.ds_check.specs.Rows.{find_if, row}
 use Rattle.ds_check.proofs.Rows.{row_step}
 

@@ -14,13 +14,13 @@ use Rattle.ds_base.specs.declared.geometry.Kind.TheVariants.{Fd}
 use Rattle.ds_image.specs.Objects.{is_used, tree_of}
 use Rattle.ds_image.specs.Parents.{AreReached}
 use Rattle.ds_image.specs.Parts.{Parts, part_at}
-use Rattle.ds_image.proofs.ReachedParents.{leads-iff_reached}
-use Rattle.ds_image.proofs.ReachedObjects.{used-within}
+use Rattle.ds_image.proofs.Parenthood.ReachedParents.{leads-iff_reached}
+use Rattle.ds_image.proofs.Parenthood.ReachedObjects.{used-within}
 use Rattle.ds_check.specs.declared.findings.Find.{Find}
 use Rattle.ds_check.specs.declared.findings.Find.TheVariants.{Lost}
 use Rattle.ds_check.specs.Findings.{AreLost}
-use Rattle.ds_check.specs.Lost.{is_unreached, unreached_at, AreNamers}
-use Rattle.ds_check.specs.Objects.{naming_stage}
+use Rattle.ds_check.specs.Unreached.{is_unreached, unreached_at, AreNamers}
+use Rattle.ds_check.specs.Names.{naming_stage}
 use Rattle.ds_check.specs.Rows.{find_if, row}
 use Rattle.ds_check.proofs.NamedOnce.{namers-parents}
 

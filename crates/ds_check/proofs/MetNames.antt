@@ -2,8 +2,7 @@
 use Rattle.std.proofs.Common.{◌≡◌, ℕ, Bool, true, false, cond, not, ◌||◌, List, Option, None, Some, refl}
 use Rattle.std.specs.List.{list_any}
 use Rattle.ds_dir.specs.declared.sub_block.Entry.{Entry}
-use Rattle.ds_check.specs.Naming.{is_known}
-use Rattle.ds_check.specs.Objects.{has_name, is_named_in}
+use Rattle.ds_check.specs.Entries.{is_known, has_name, is_named_in}
 
 pub not-not : (b : Bool) → not (not b) ≡ b
 not-not true = refl

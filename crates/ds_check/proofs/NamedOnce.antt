@@ -17,13 +17,13 @@ use Rattle.ds_tree.specs.WellFormed.{Names}
 use Rattle.ds_image.specs.Objects.{is_used, rooms_of, subs_of, tree_of}
 use Rattle.ds_image.specs.Parents.{parent_of}
 use Rattle.ds_image.specs.Parts.{Parts, part_at}
-use Rattle.ds_image.specs.TreeParents.{AreParentsIn}
-use Rattle.ds_image.proofs.ReachedObjects.{used-within}
-use Rattle.ds_check.specs.Lost.{named_by, times, AreNamers}
+use Rattle.ds_image.proofs.Parenthood.TreeParents.{AreParentsIn}
+use Rattle.ds_image.proofs.Parenthood.ReachedObjects.{used-within}
+use Rattle.ds_check.specs.Unreached.{named_by, times, AreNamers}
 use Rattle.ds_check.specs.declared.findings.Find.TheVariants.{Dangling, Again}
 use Rattle.ds_check.specs.declared.findings.Find.TheVariants as finds
-use Rattle.ds_check.specs.Naming.{dangling_room, dangling_in, repeated_room, repeated_in, misnamed_at}
-use Rattle.ds_check.specs.Objects.{same_kind, is_body_of, is_dangling, has_name, is_named_in, named_in, names_of, wanted_names, rooms_at, dangling, repeated, misnamed, naming_stage}
+use Rattle.ds_check.specs.Entries.{dangling_room, dangling_in, repeated_room, repeated_in, same_kind, is_body_of, is_dangling, has_name, is_named_in, rooms_at, dangling, repeated}
+use Rattle.ds_check.specs.Names.{misnamed_at, named_in, names_of, wanted_names, misnamed, naming_stage}
 use Rattle.ds_check.proofs.EntryRooms.{find-first, room-found, room-counts, given-counted}
 use Rattle.ds_check.proofs.NamedRooms.{named_below, named-more}
 use Rattle.ds_check.proofs.NoFinds.{both-none, not-found, row-none}

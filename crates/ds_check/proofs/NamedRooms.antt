@@ -8,7 +8,8 @@ use Rattle.std.proofs.lemmas.List.Elements.{filter_map-append}
 use Rattle.std.proofs.lemmas.List.Sums.{sum_by_push}
 use Rattle.ds_image.specs.NameCounts.{CountsNames}
 use Rattle.ds_image.specs.Parts.{Parts}
-use Rattle.ds_check.specs.Objects.{rooms_at, named_in}
+use Rattle.ds_check.specs.Entries.{rooms_at}
+use Rattle.ds_check.specs.Names.{named_in}
 use Rattle.ds_check.proofs.Rows.{range-more}
 
 -- the objects that the rooms of the first directories name

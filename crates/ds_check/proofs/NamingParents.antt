@@ -7,7 +7,7 @@ use Rattle.std.proofs.lemmas.List.{append-nil, length-set, length-replicate, get
 use Rattle.std.proofs.lemmas.List.Sums.{sum_by_push}
 use Rattle.ds_image.specs.Parents.{parent_of}
 use Rattle.ds_image.specs.Parts.{Parts}
-use Rattle.ds_check.specs.Lost.{named_by, times, set_named, SetsParents, AreNamers}
+use Rattle.ds_check.specs.Unreached.{named_by, times, set_named, SetsParents, AreNamers}
 
 abbrev one : Bool → ℕ
 one b = cond b 1 0

@@ -20,7 +20,8 @@ use Rattle.ds_check.specs.declared.findings.Find.{Find}
 use Rattle.ds_check.specs.Controls.{Controls, owners_of, SpellsOwner, SpellsCluster, SpellsPending, ReadsControls}
 use Rattle.ds_check.specs.Findings.{AreFoundInFront}
 use Rattle.ds_check.specs.Journals.{has_pairs, is_committed, journal_form, unindexed, overlaid, journals_stage}
-use Rattle.ds_check.specs.Marks.{info_form, slot_form, cluster_form, descriptor_form, unformed, misowned, misbroken, marks_stage}
+use Rattle.ds_check.specs.Headers.{info_form, slot_form, cluster_form, descriptor_form, unformed, misowned, headers_stage}
+use Rattle.ds_check.specs.Breakers.{misbroken}
 use Rattle.ds_check.specs.Rows.{row, row_of_kinds, first_found}
 use Rattle.ds_check.proofs.NoFinds.{both-none, not-found, row-none}
 
@@ -60,7 +61,7 @@ record NoneFound (g : Geom) (c : Controls) : Type 0 where
   descriptors : row (items_of g Fd) (descriptor_form g c) ≡ []
   journals : unindexed g c ≡ []
 
-none_found : (g : Geom) (id : List ℕ) (c : Controls) → marks_stage g id c ≡ [] → journals_stage g c ≡ [] → NoneFound g c
+none_found : (g : Geom) (id : List ℕ) (c : Controls) → headers_stage g id c ≡ [] → journals_stage g c ≡ [] → NoneFound g c
 none_found g id c marks journals =
     let slots = row g.slots (slot_form g c) in
     let clusters = row_of_kinds (λ kind. row (clusters_of g kind) (cluster_form g c kind)) in
@@ -131,5 +132,5 @@ nothing (find ∷ finds) none = absurd (omega arith)
 
 pub no_bad : (g : Geom) (id : List ℕ) (sectors : List Sector) (finds : List Find) → AreFoundInFront g id sectors finds → length finds ≡ 0 → HasNoBad g sectors
 no_bad g id sectors finds front none at bad =
-    let stages = both_stages (marks_stage g id front.controls) (journals_stage g front.controls) (sym front.found ∙ nothing finds none) in
+    let stages = both_stages (headers_stage g id front.controls) (journals_stage g front.controls) (sym front.found ∙ nothing finds none) in
     good_place g sectors front.controls bad.place front.reads (none_found g id front.controls stages.0 stages.1) bad.is_place bad.bad

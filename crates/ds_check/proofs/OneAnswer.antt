@@ -10,15 +10,15 @@ use Rattle.ds_layout.specs.Places.{total_of}
 use Rattle.ds_layout.specs.Volume.{vol_bytes}
 use Rattle.ds_layout.proofs.FirstSectors.{vol_same}
 use Rattle.ds_image.specs.Parts.{Parts}
-use Rattle.ds_image.specs.Readings.{Reads, SpellsSlot}
-use Rattle.ds_image.proofs.Decoded.{decoded_same, reading_same}
-use Rattle.ds_image.proofs.OneLogical.{logical_once}
-use Rattle.ds_image.proofs.Readings.{parts_same}
+use Rattle.ds_image.specs.Readings.{ReadsParts, SpellsSlot}
+use Rattle.ds_image.proofs.Spelling.Decoded.{decoded_same, reading_same}
+use Rattle.ds_image.proofs.Journaling.OneLogical.{logical_once}
+use Rattle.ds_image.proofs.Spelling.Readings.{parts_same}
 use Rattle.ds_check.specs.Checks.{AreFindingsOf, IsCheckFault, IsCheckAnswer, OrNoMemory}
 use Rattle.ds_check.specs.Controls.{Controls, owners_of, SpellsId, SpellsOwner, SpellsCluster, SpellsPending, ReadsControls}
 use Rattle.ds_check.specs.Findings.{AreLost, AreFoundOrLost, found_in, AreFoundIn, AreFoundBehind, AreFoundFrom, AreFoundInFront, AreFindings}
 use Rattle.ds_check.specs.Journals.{journals_stage}
-use Rattle.ds_check.specs.Marks.{marks_stage}
+use Rattle.ds_check.specs.Headers.{headers_stage}
 use Rattle.ds_check.specs.Rows.{first_found}
 use Rattle.ds_check.specs.Volumes.{SpellsVolume, AreOfVolume, IsBadImage}
 use Rattle.ds_check.specs.declared.checking.CheckFault.{CheckFault}
@@ -56,7 +56,7 @@ controls-once g sectors c d r s =
 
 front-once : (g : Geom) (id : List ℕ) (sectors : List Sector) (xs ys : List Find) → AreFoundInFront g id sectors xs → AreFoundInFront g id sectors ys → xs ≡ ys
 front-once g id sectors xs ys a b =
-    a.found ∙ ap (λ (c : Controls). first_found (marks_stage g id c ∷ journals_stage g c ∷ [])) (controls-once g sectors a.controls b.controls a.reads b.reads) ∙ sym b.found
+    a.found ∙ ap (λ (c : Controls). first_found (headers_stage g id c ∷ journals_stage g c ∷ [])) (controls-once g sectors a.controls b.controls a.reads b.reads) ∙ sym b.found
 
 -- the lost objects are one rising list
 lost-once : (p : Parts) (xs ys : List Find) → AreLost p xs → AreLost p ys → xs ≡ ys
@@ -71,7 +71,7 @@ or-lost-once p (first ∷ more) xs ys a b = a ∙ sym b
 behind-once : (g : Geom) (sectors : List Sector) (xs ys : List Find) → AreFoundBehind g sectors xs → AreFoundBehind g sectors ys → xs ≡ ys
 behind-once g sectors xs ys a b =
     let image : a.image ≡ b.image = logical_once g sectors a.image b.image a.is_logical b.is_logical in
-    let reads : Reads g (slice_get b.image) a.parts = subst (λ (s : List Sector). Reads g (slice_get s) a.parts) image a.reads in
+    let reads : ReadsParts g (slice_get b.image) a.parts = subst (λ (s : List Sector). ReadsParts g (slice_get s) a.parts) image a.reads in
     let parts : a.parts ≡ b.parts = parts_same g (slice_get b.image) a.parts b.parts reads b.reads in
     or-lost-once b.parts (found_in g b.parts) xs ys (subst (λ (p : Parts). AreFoundIn g p xs) parts a.found) b.found
 

@@ -10,8 +10,8 @@ use Rattle.ds_fd.specs.declared.body.Body.{Body}
 use Rattle.ds_image.specs.Objects.{ptrs_by, addresses_in}
 use Rattle.ds_image.specs.Parts.{Parts, part_at}
 use Rattle.ds_ptr.specs.declared.ptr_block.PtrBlock.{PtrBlock}
-use Rattle.ds_check.specs.Addresses.{pointer_block, is_bad_number}
-use Rattle.ds_check.specs.Objects.{is_outside, is_bad_block, past_last, is_first_past, is_bad_address}
+use Rattle.ds_check.specs.AddressSteps.{pointer_block, is_bad_number}
+use Rattle.ds_check.specs.Addresses.{is_outside, is_bad_block, past_last, is_first_past, is_bad_address}
 
 pointed-in : (p : Parts) (o : Option ℕ) (k : ℕ)
     → slice_get (addresses_in (elim o [ None ↦ None | Some n ↦ part_at p.ptrs n ])) k

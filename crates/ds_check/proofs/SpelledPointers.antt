@@ -11,10 +11,10 @@ use Rattle.ds_ptr.proofs.Laws.{ptr_reading}
 use Rattle.ds_ptr.specs.declared.ptr_block.PtrBlock.{PtrBlock}
 use Rattle.ds_image.specs.ImageValues.{IsImage}
 use Rattle.ds_image.specs.Parts.{Parts, part_at}
-use Rattle.ds_image.specs.Readings.{Reads}
+use Rattle.ds_image.specs.Readings.{ReadsParts}
 use Rattle.ds_layout.proofs.MetadataPlaces.{metadata_within}
 
-module _ (g : Geom) (image : List Sector) (p : Parts) (is : IsImage g image) (reads : Reads g (slice_get image) p) where
+module _ (g : Geom) (image : List Sector) (p : Parts) (is : IsImage g image) (reads : ReadsParts g (slice_get image) p) where
   pub pointer-there : (n : ℕ) → n < items_of g Pb → (b : PtrBlock) × (part_at p.ptrs n ≡ Some b) × (length b.addresses ≡ 128)
   pointer-there n within =
       let at = place_sector g (places.PtrBlock n) in

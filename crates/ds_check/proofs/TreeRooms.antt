@@ -9,8 +9,8 @@ use Rattle.ds_tree.specs.Nodes.{Entries, Object, unborn, object_at, node_at}
 use Rattle.ds_tree.specs.Trees as trees
 use Rattle.ds_image.specs.Objects.{object_of, tree_of, subs_of, entries_of, used_rooms}
 use Rattle.ds_image.specs.Parts.{Parts, part_at}
-use Rattle.ds_image.proofs.TreeParts.{entries-of}
-use Rattle.ds_check.specs.Objects.{rooms_at}
+use Rattle.ds_image.proofs.FileTrees.TreeParts.{entries-of}
+use Rattle.ds_check.specs.Entries.{rooms_at}
 use Rattle.ds_check.proofs.EntryRooms.{found_in}
 
 -- the object of each number, also past the last

@@ -7,13 +7,17 @@ use Rattle.ds_tree.specs.WellFormed.{Reached}
 use Rattle.ds_image.specs.Logical.{IsLogical}
 use Rattle.ds_image.specs.Objects.{is_used, tree_of}
 use Rattle.ds_image.specs.Parts.{Parts, part_at}
-use Rattle.ds_image.specs.Readings.{Reads}
+use Rattle.ds_image.specs.Readings.{ReadsParts}
 use Rattle.ds_check.specs.declared.findings.Find.{Find}
 use Rattle.ds_check.specs.declared.findings.Find.TheVariants.{Lost}
 use Rattle.ds_check.specs.Controls.{Controls, ReadsControls}
 use Rattle.ds_check.specs.Journals.{journals_stage}
-use Rattle.ds_check.specs.Marks.{marks_stage}
-use Rattle.ds_check.specs.Objects.{metadata_stage, addresses_stage, sharing_stage, marking_stage, naming_stage}
+use Rattle.ds_check.specs.Headers.{headers_stage}
+use Rattle.ds_check.specs.Metadata.{metadata_stage}
+use Rattle.ds_check.specs.Addresses.{addresses_stage}
+use Rattle.ds_check.specs.Sharing.{sharing_stage}
+use Rattle.ds_check.specs.Marking.{marking_stage}
+use Rattle.ds_check.specs.Names.{naming_stage}
 use Rattle.ds_check.specs.Rows.{first_found}
 
 -- an object that is in use, and isn't reached from the root
@@ -47,7 +51,7 @@ pub record AreFoundBehind (g : Geom) (sectors : List Sector) (finds : List Find)
   pub image : List Sector
   pub is_logical : IsLogical g sectors image
   pub parts : Parts
-  pub reads : Reads g (slice_get image) parts
+  pub reads : ReadsParts g (slice_get image) parts
   pub found : AreFoundIn g parts finds
 
 -- the findings of the first two stages, where there are any, and else those of the logical image
@@ -59,7 +63,7 @@ AreFoundFrom g sectors (first ∷ more) finds = finds ≡ first ∷ more
 pub record AreFoundInFront (g : Geom) (id : List ℕ) (sectors : List Sector) (finds : List Find) : Type 0 where
   pub controls : Controls
   pub reads : ReadsControls g sectors controls
-  pub found : finds ≡ first_found (marks_stage g id controls ∷ journals_stage g controls ∷ [])
+  pub found : finds ≡ first_found (headers_stage g id controls ∷ journals_stage g controls ∷ [])
 
 -- the findings of a volume with this id, this geometry and these sectors
 pub record AreFindings (g : Geom) (id : List ℕ) (sectors : List Sector) (finds : List Find) : Type 0 where

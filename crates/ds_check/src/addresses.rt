@@ -5,19 +5,10 @@ ghost use Rattle.ds_base.specs.Geometry.{items_of};
 ghost use Rattle.ds_base.specs.declared.names.NodeKind.TheVariants as kinds;
 ghost use Rattle.ds_image.specs.Objects.{addresses_in, ptrs_by, subs_by};
 ghost use Rattle.ds_image.specs.Parts.{part_at};
-ghost use Rattle.ds_check.specs.Addresses.{pointer_block, is_first_used, is_bad_number, room_at};
+ghost use Rattle.ds_check.specs.AddressSteps.{pointer_block, is_first_used, is_bad_number};
+ghost use Rattle.ds_check.specs.Addresses.{room_at, is_outside, is_bad_block, most_addresses, address_finds, misaddressed, room_finds, unroomed, addresses_stage};
 ghost use Rattle.ds_check.specs.Rows.{find_if};
 ghost use Rattle.ds_check.specs.declared.findings.Find.TheVariants as finds;
-ghost use Rattle.ds_check.specs.Objects.{
-  is_outside,
-  is_bad_block,
-  most_addresses,
-  address_finds,
-  misaddressed,
-  room_finds,
-  unroomed,
-  addresses_stage,
-};
 
 use crate::controls::descriptor_count;
 use crate::findings::Find;
@@ -138,7 +129,7 @@ fn note_address(
 }
 
 /// The end of the addresses of a body with which something may be wrong.
-#[tactic(auto, unfolding(crate::specs::Objects::most_addresses))]
+#[tactic(auto, unfolding(crate::specs::Addresses::most_addresses))]
 fn address_end(body: &Body, past: &[u32]) -> u32
     ensures { result ≡ min (body.now.count + length past.now) most_addresses }
 {

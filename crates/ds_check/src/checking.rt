@@ -7,17 +7,21 @@ ghost use Rattle.ds_check.specs.Checks.{AreFindingsOf, IsCheckFault, IsCheckAnsw
 ghost use Rattle.ds_check.specs.declared.checking.CheckFault.{CheckFault};
 ghost use Rattle.ds_check.specs.declared.findings.Find.{Find};
 ghost use Rattle.ds_check.specs.Findings.{found_in, AreFindings, AreFoundBehind, AreFoundIn, AreFoundOrLost};
-ghost use Rattle.ds_check.specs.Objects.{metadata_stage, addresses_stage, sharing_stage, marking_stage, naming_stage};
+ghost use Rattle.ds_check.specs.Metadata.{metadata_stage};
+ghost use Rattle.ds_check.specs.Addresses.{addresses_stage};
+ghost use Rattle.ds_check.specs.Sharing.{sharing_stage};
+ghost use Rattle.ds_check.specs.Marking.{marking_stage};
+ghost use Rattle.ds_check.specs.Names.{naming_stage};
 ghost use Rattle.ds_check.specs.Rows.{first_found};
 
 use crate::addresses::note_addresses;
 use crate::fronts::found_in_front;
-use crate::lost::note_lost;
 use crate::marking::note_marking;
 use crate::metadata::note_metadata;
-use crate::naming::note_naming;
+use crate::names::note_naming;
 use crate::reports::Report;
 use crate::sharing::note_sharing;
+use crate::unreached::note_lost;
 use crate::volumes::volume_in;
 use ds_base::{Geom, Kind, NoMemory, Sector, SectorNo};
 use ds_image::{ImageFault, PartsInMemory, bits_in, overlay};

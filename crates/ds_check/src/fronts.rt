@@ -7,14 +7,14 @@ ghost use Rattle.ds_check.specs.Journals.{journals_stage};
 ghost use Rattle.ds_check.specs.Rows.{first_found};
 
 use crate::controls::ControlsInMemory;
+use crate::headers::note_headers;
 use crate::journals::note_journals;
-use crate::marks::note_marks;
 use crate::reports::Report;
 use ds_base::{Geom, NoMemory, Sector};
 use std::alloc::Global;
 use uuid::Uuid;
 
-/// What is found in the marks of a volume or, where there is nothing, in its journals.
+/// What is found in the headers and slots of a volume or, where there is nothing, in its journals.
 pub(crate) fn found_in_front(
     alloc: Global,
     geom: &Geom,
@@ -27,7 +27,7 @@ pub(crate) fn found_in_front(
 {
     let controls = ControlsInMemory::read(alloc, geom, sectors)?;
     let mut report = Report::new(alloc);
-    note_marks(&mut report, geom, id, &controls)?;
+    note_headers(&mut report, geom, id, &controls)?;
     note_journals_next(&mut report, geom, &controls)?;
     Ok(report)
 }

@@ -1,35 +1,27 @@
 //! The checker of images: what is at odds in the sectors of a volume.
+//!
+//! Its stages, of which the first that finds something ends the check: headers (with the breakers of slots), journals,
+//! metadata, addresses, sharing, marking, names (with the entries of directories), and what is unreached.
 #![tactic(auto)]
 
 mod addresses;
-#[cfg(test)]
-mod changes_for_tests;
+mod breakers;
 mod checking;
 mod controls;
-#[cfg(test)]
-mod finding_tests;
+mod entries;
 mod findings;
 mod fronts;
-mod growing;
-#[cfg(test)]
-mod journal_tests;
+mod headers;
 mod journals;
-#[cfg(test)]
-mod large_file_tests;
 mod listed;
-mod lost;
 mod marking;
-mod marks;
 mod metadata;
-mod naming;
+mod names;
 mod reports;
 mod rooms;
 mod sharing;
-#[cfg(test)]
-mod small_volume;
-#[cfg(test)]
-mod stage_tests;
 mod texts;
+mod unreached;
 mod uses;
 mod volumes;
 

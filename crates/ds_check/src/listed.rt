@@ -1,7 +1,7 @@
 //! The items that the objects of an image list.
 ghost use Rattle.std.specs.Prelude.{◌≡◌, IfOk};
 ghost use Rattle.ds_image.specs.Parts.{part_at};
-ghost use Rattle.ds_check.specs.Objects.{listed_by};
+ghost use Rattle.ds_check.specs.Uses.{listed_by};
 
 use ds_base::{Kind, NoMemory, ObjNo, Sector};
 use ds_fd::Body;

@@ -7,7 +7,8 @@ ghost use Rattle.ds_image.specs.Owns.{bit};
 ghost use Rattle.ds_image.specs.Parts.{part_at, bits_in, maps_of};
 ghost use Rattle.ds_image.specs.Users.{users};
 ghost use Rattle.ds_check.specs.declared.findings.Find.TheVariants as finds;
-ghost use Rattle.ds_check.specs.Objects.{uses_of, is_in_use, mismarked, marking_stage};
+ghost use Rattle.ds_check.specs.Uses.{uses_of};
+ghost use Rattle.ds_check.specs.Marking.{is_in_use, mismarked, marking_stage};
 ghost use Rattle.ds_check.specs.Rows.{find_if, row};
 
 use crate::controls::descriptor_count;
@@ -168,48 +169,4 @@ fn listed_items(
             .map_err(|_| NoMemory)?;
     }
     Ok(used)
-}
-
-#[cfg(test)]
-mod tests {
-    use super::*;
-    use crate::small_volume::{SMALL, image_of, sectors};
-    use std::test::Fail;
-
-    #[test]
-    fn a_descriptor_is_used_by_its_kind_and_another_item_by_its_users(
-        rt: HostRuntime,
-    ) -> Result<(), Fail> {
-        let alloc = rt.alloc();
-        let sectors = sectors(alloc)?;
-        let sectors = sectors.as_slice();
-        let image = image_of(alloc, &sectors)?;
-        let parts = PartsInMemory::read(alloc, &image)?;
-        let descriptors = used_of(alloc, &SMALL, &parts, Kind::Fd)?;
-        assert_eq!(rt;
-            descriptors.as_slice(),
-            [true, true, true, true, false].as_slice()
-        );
-        let subs = used_of(alloc, &SMALL, &parts, Kind::Sb)?;
-        assert_eq!(rt; subs.as_slice(), [false, true, false].as_slice());
-        let ptrs = used_of(alloc, &SMALL, &parts, Kind::Pb)?;
-        assert_eq!(rt; ptrs.as_slice(), [false, true].as_slice());
-        let blocks = used_of(alloc, &SMALL, &parts, Kind::Fb)?;
-        assert_eq!(rt; blocks.as_slice(), [true, false, true].as_slice());
-        Ok(())
-    }
-
-    #[test]
-    fn marked_items_are_told_before_unmarked_ones(rt: HostRuntime) -> Result<(), Fail> {
-        let mut report = Report::new(rt.alloc());
-        // The bits of one item more, and of none.
-        let marked = [true, true, false, true];
-        let used = [true, false, true];
-        note_marked(&mut report, &SMALL, Kind::Fb, &marked, &used)?;
-        note_unmarked(&mut report, &SMALL, Kind::Fb, &marked, &used)?;
-        note_unmarked(&mut report, &SMALL, Kind::Pb, &[], &[false, true])?;
-        let lines = b"fb 1 marked\nfb 2 unmarked\npb 1 unmarked\n";
-        assert_eq!(rt; report.text()?.as_slice(), lines.as_slice());
-        Ok(())
-    }
 }

@@ -3,7 +3,7 @@ ghost use Rattle.std.specs.Prelude.{◌≡◌, ◌<◌, ◌++◌, is_none, Some,
 ghost use Rattle.ds_base.specs.Geometry.{IsGeom, clusters_of, items_of};
 ghost use Rattle.ds_image.specs.Parts.{part_at};
 ghost use Rattle.ds_check.specs.Rows.{row, row_of_kinds};
-ghost use Rattle.ds_check.specs.Objects.{bitmap_form, body_form, unread, is_root, root_finds, metadata_stage};
+ghost use Rattle.ds_check.specs.Metadata.{bitmap_form, body_form, unread, is_root, root_finds, metadata_stage};
 
 use crate::controls::{cluster_count, descriptor_count};
 use crate::findings::Find;

@@ -5,9 +5,9 @@ ghost use Rattle.ds_check.specs.Rows.{find_if};
 ghost use Rattle.ds_check.specs.Texts.{report_text, find_line};
 
 use crate::findings::Find;
-use crate::growing::Growing;
 use crate::texts::write_find;
 use ds_base::NoMemory;
+use ds_text::Text;
 use std::alloc::Global;
 use std::marker::Model;
 
@@ -66,7 +66,7 @@ impl Report {
     pub fn text(&self) -> Result<Vec<u8>, NoMemory>
         ensures { IfOk result (λ text. text.items ≡ report_text self.now) }
     {
-        let mut text = Growing::new(*self.findings.allocator());
+        let mut text = Text::new(*self.findings.allocator());
         if self.findings.is_empty() {
             text.bytes(b"clean\n")?;
         }
@@ -75,7 +75,7 @@ impl Report {
     }
 }
 
-fn write_lines(text: &mut Growing, finds: &[Find]) -> Result<(), NoMemory>
+fn write_lines(text: &mut Text, finds: &[Find]) -> Result<(), NoMemory>
     ensures { OnOk result (text.new ≡ text.old ++ flat_map find_line finds.now) }
 {
     for find in finds {
@@ -84,43 +84,9 @@ fn write_lines(text: &mut Growing, finds: &[Find]) -> Result<(), NoMemory>
     Ok(())
 }
 
-fn write_line(text: &mut Growing, find: &Find) -> Result<(), NoMemory>
+fn write_line(text: &mut Text, find: &Find) -> Result<(), NoMemory>
     ensures { OnOk result (text.new ≡ text.old ++ find_line find.now) }
 {
     write_find(text, find)?;
     text.bytes(b"\n")
-}
-
-#[cfg(test)]
-mod tests {
-    use super::*;
-    use ds_base::Kind;
-    use std::test::Fail;
-
-    #[test]
-    fn each_finding_is_a_line(rt: HostRuntime) -> Result<(), Fail> {
-        let mut report = Report::new(rt.alloc());
-        assert_eq!(rt; report.text()?.as_slice(), b"clean\n".as_slice());
-
-        report.note(Find::SectorForm { sector: 1 })?;
-        report.note(Find::JournalsShare {
-            first: 0,
-            second: 3,
-            sector: 147,
-        })?;
-        report.note_if(false, Find::Root)?;
-        report.note_if(true, Find::Root)?;
-        report.note(Find::Twice {
-            kind: Kind::Fb,
-            item: 0,
-            first: 1,
-            second: 2,
-        })?;
-        report.note(Find::Dangling { object: 0, room: 5 })?;
-        let lines =
-            b"sector 1 form\njournals 0 3 share 147\nroot\nfb 0 twice 1 2\nobject 0 room 5 dangling\n";
-        assert_eq!(rt; report.text()?.as_slice(), lines.as_slice());
-        assert_eq!(rt; report.findings().len(), 5);
-        Ok(())
-    }
 }

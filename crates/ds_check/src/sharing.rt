@@ -1,6 +1,6 @@
 //! The fifth stage of a check: items that are listed twice.
 ghost use Rattle.std.specs.Prelude.{◌≡◌, ◌++◌, ℕ, List, slice_get, OnOk};
-ghost use Rattle.ds_check.specs.Objects.{twice, shared_items, sharing_stage};
+ghost use Rattle.ds_check.specs.Sharing.{twice, shared_items, sharing_stage};
 
 use crate::findings::Find;
 use crate::reports::Report;
@@ -63,27 +63,4 @@ fn note_twice(
         first,
         second,
     })
-}
-
-#[cfg(test)]
-mod tests {
-    use super::*;
-    use crate::small_volume::{SMALL, image_of, sectors};
-    use std::test::Fail;
-
-    #[test]
-    fn an_item_listed_twice_is_told_with_its_two_least_objects(
-        rt: HostRuntime,
-    ) -> Result<(), Fail> {
-        let alloc = rt.alloc();
-        let sectors = sectors(alloc)?;
-        let sectors = sectors.as_slice();
-        let image = image_of(alloc, &sectors)?;
-        let parts = PartsInMemory::read(alloc, &image)?;
-        let mut report = Report::new(alloc);
-        note_sharing(&mut report, alloc, &SMALL, &parts)?;
-        let lines = b"sb 1 twice 0 0\nfb 0 twice 1 3\nfb 2 twice 1 2\n";
-        assert_eq!(rt; report.text()?.as_slice(), lines.as_slice());
-        Ok(())
-    }
 }

@@ -3,11 +3,11 @@ ghost use Rattle.std.specs.Prelude.{◌≡◌, ◌++◌, OnOk, codes, decimal};
 ghost use Rattle.ds_check.specs.Texts.{find_text, object_text, room_text, item_text, both_text, kind_text};
 
 use crate::findings::Find;
-use crate::growing::Growing;
 use ds_base::{Kind, NoMemory};
+use ds_text::Text;
 
 /// The text of a finding, behind what stands there.
-pub(crate) fn write_find(text: &mut Growing, find: &Find) -> Result<(), NoMemory>
+pub(crate) fn write_find(text: &mut Text, find: &Find) -> Result<(), NoMemory>
     ensures { OnOk result (text.new ≡ text.old ++ find_text find.now) }
 {
     match *find {
@@ -41,54 +41,44 @@ pub(crate) fn write_find(text: &mut Growing, find: &Find) -> Result<(), NoMemory
 }
 
 /// A number between two words.
-fn write_numbered(
-    text: &mut Growing,
-    before: &[u8],
-    number: u32,
-    after: &[u8],
-) -> Result<(), NoMemory>
+fn write_numbered(text: &mut Text, before: &[u8], number: u32, after: &[u8]) -> Result<(), NoMemory>
     ensures { OnOk result (text.new ≡ text.old ++ (before.now ++ decimal number ++ after.now)) }
 {
     text.bytes(before)?;
-    text.number(number)?;
+    text.number(u64::from(number))?;
     text.bytes(after)
 }
 
 /// Two numbers with a blank between them.
-fn write_both(text: &mut Growing, first: u32, second: u32) -> Result<(), NoMemory>
+fn write_both(text: &mut Text, first: u32, second: u32) -> Result<(), NoMemory>
     ensures { OnOk result (text.new ≡ text.old ++ both_text first second) }
 {
-    text.number(first)?;
+    text.number(u64::from(first))?;
     text.bytes(b" ")?;
-    text.number(second)
+    text.number(u64::from(second))
 }
 
-fn write_shared(text: &mut Growing, first: u32, second: u32, sector: u32) -> Result<(), NoMemory>
+fn write_shared(text: &mut Text, first: u32, second: u32, sector: u32) -> Result<(), NoMemory>
     ensures { OnOk result (text.new ≡ text.old
         ++ (codes "journals " ++ both_text first second ++ codes " share " ++ decimal sector)) }
 {
     text.bytes(b"journals ")?;
     write_both(text, first, second)?;
     text.bytes(b" share ")?;
-    text.number(sector)
+    text.number(u64::from(sector))
 }
 
 /// An object, a word and a number of something of the object.
-fn write_of_object(
-    text: &mut Growing,
-    object: u32,
-    word: &[u8],
-    number: u32,
-) -> Result<(), NoMemory>
+fn write_of_object(text: &mut Text, object: u32, word: &[u8], number: u32) -> Result<(), NoMemory>
     ensures { OnOk result (text.new ≡ text.old ++ (object_text object ++ word.now ++ decimal number)) }
 {
     text.bytes(b"object ")?;
-    text.number(object)?;
+    text.number(u64::from(object))?;
     text.bytes(word)?;
-    text.number(number)
+    text.number(u64::from(number))
 }
 
-fn write_room(text: &mut Growing, object: u32, room: u32, word: &[u8]) -> Result<(), NoMemory>
+fn write_room(text: &mut Text, object: u32, room: u32, word: &[u8]) -> Result<(), NoMemory>
     ensures { OnOk result (text.new ≡ text.old ++ (room_text object room ++ word.now)) }
 {
     write_of_object(text, object, b" room ", room)?;
@@ -96,7 +86,7 @@ fn write_room(text: &mut Growing, object: u32, room: u32, word: &[u8]) -> Result
 }
 
 fn write_twice(
-    text: &mut Growing,
+    text: &mut Text,
     kind: Kind,
     item: u32,
     first: u32,
@@ -109,12 +99,12 @@ fn write_twice(
 }
 
 /// An item and a word.
-fn write_item(text: &mut Growing, kind: Kind, item: u32, word: &[u8]) -> Result<(), NoMemory>
+fn write_item(text: &mut Text, kind: Kind, item: u32, word: &[u8]) -> Result<(), NoMemory>
     ensures { OnOk result (text.new ≡ text.old ++ (item_text kind item ++ word.now)) }
 {
     text.bytes(kind_word(kind))?;
     text.bytes(b" ")?;
-    text.number(item)?;
+    text.number(u64::from(item))?;
     text.bytes(word)
 }
 

@@ -3,7 +3,7 @@ ghost use Rattle.std.specs.Prelude.{◌≡◌, ◌++◌, ◌∷◌, [], ℕ, Lis
 ghost use Rattle.ds_base.specs.Geometry.{items_of};
 ghost use Rattle.ds_image.specs.Parts.{part_at};
 ghost use Rattle.ds_image.specs.Users.{uses_by, KnowsUsers};
-ghost use Rattle.ds_check.specs.Objects.{listed_by, uses_of};
+ghost use Rattle.ds_check.specs.Uses.{listed_by, uses_of};
 
 use crate::controls::descriptor_count;
 use crate::listed::{body_at, listed_by};

@@ -13,9 +13,9 @@ use Rattle.ds_bitmap.specs.Bits.{Bitmap}
 use Rattle.ds_image.specs.Looks.{Look}
 use Rattle.ds_image.specs.Parts.{part_at, AllSpelled, used_bits, bits_in}
 use Rattle.ds_image.specs.Readings.{SpellsBits, IsReading}
-use Rattle.ds_image.proofs.Listed.{bits_length}
-use Rattle.ds_image.proofs.OwnedCounts.{marked_count}
-use Rattle.ds_image.proofs.Sizes.{part_within}
+use Rattle.ds_image.proofs.Ownership.Listed.{bits_length}
+use Rattle.ds_image.proofs.Ownership.OwnedCounts.{marked_count}
+use Rattle.ds_image.proofs.Spelling.Sizes.{part_within}
 
 -- Rows of one width, one after another
 

@@ -18,8 +18,8 @@ use Rattle.ds_image.specs.Listers.{listed_of, listed_lists}
 use Rattle.ds_image.specs.Looks.{Look, AreBlocks}
 use Rattle.ds_layout.specs.Metadata.{IsMetadata, is_metadata}
 use Rattle.ds_image.specs.Parts.{Parts, part_at}
-use Rattle.ds_image.specs.Readings.{Reads}
-use Rattle.ds_image.proofs.Readings.{parts_there}
+use Rattle.ds_image.specs.Readings.{ReadsParts}
+use Rattle.ds_image.proofs.Spelling.Readings.{parts_there}
 
 -- whether a descriptor of the kind lists the item
 abbrev lists_item : NodeKind → Parts → ℕ → ℕ → Bool
@@ -40,7 +40,7 @@ least_at kind p n object most before here =
     ap (λ list. list_any (λ x. x == n) list) (at object inside) ∙ here inside)
 
 -- the first descriptor that lists the item
-pub lister_found : (g : Geom) (look : Look) (kind : NodeKind) (p : Parts) (n object cluster : ℕ) → Reads g look p → object < items_of g Fd
+pub lister_found : (g : Geom) (look : Look) (kind : NodeKind) (p : Parts) (n object cluster : ℕ) → ReadsParts g look p → object < items_of g Fd
     → ((i : ℕ) → i < object → lists_item kind p n i ≡ false) → lists_item kind p n object ≡ true → object ≡ lister_or (listed_lists kind p) n cluster
 lister_found g look kind p n object cluster reads l before here =
     let least : least_lister (listed_lists kind p) n ≡ object = least_at kind p n object (omega (arith, l, reads.bodies.len)) before (λ _. here) in
@@ -49,7 +49,7 @@ lister_found g look kind p n object cluster reads l before here =
     rw (least, within) refl
 
 -- no descriptor lists the item
-pub lister_none : (g : Geom) (look : Look) (kind : NodeKind) (p : Parts) (n cluster : ℕ) → Reads g look p
+pub lister_none : (g : Geom) (look : Look) (kind : NodeKind) (p : Parts) (n cluster : ℕ) → ReadsParts g look p
     → ((i : ℕ) → i < items_of g Fd → lists_item kind p n i ≡ false) → cluster ≡ lister_or (listed_lists kind p) n cluster
 lister_none g look kind p n cluster reads none =
     let count : length (listed_lists kind p) ≡ length p.bodies = length-map p.bodies (listed_of kind) in
@@ -61,7 +61,7 @@ lister_none g look kind p n cluster reads none =
 -- the guard of a place is that of its sector
 pub guard_exact : (g : Geom) (look : Look) (place : Place) (at : ℕ) (r : Option ℕ) → IsGeom g → AreBlocks look → IsPlace g place
     → place_sector g place ≡ at
-    → ((p : Parts) → Reads g look p → r ≡ guard_of g p place) → IsDecoded r (IsGuard g look at)
+    → ((p : Parts) → ReadsParts g look p → r ≡ guard_of g p place) → IsDecoded r (IsGuard g look at)
 guard_exact g look place at r is blocks inside here answer object =
     let there = parts_there g look is blocks in (
       λ e. record {
@@ -93,7 +93,7 @@ guarded_places g p (places.Block block index) = refl
 -- so a sector has a guard exactly where it is one of these
 pub guard_there : (g : Geom) (look : Look) (place : Place) (at : ℕ) (r : Option ℕ) → IsGeom g → AreBlocks look → IsPlace g place
     → place_sector g place ≡ at
-    → ((p : Parts) → Reads g look p → r ≡ guard_of g p place) → IsSome r ↔ IsMetadata g at
+    → ((p : Parts) → ReadsParts g look p → r ≡ guard_of g p place) → IsSome r ↔ IsMetadata g at
 guard_there g look place at r is blocks inside here answer =
     let there = parts_there g look is blocks in
     let same : is_some r ≡ is_metadata place = ap is_some (answer there.0 there.1) ∙ guarded_places g there.0 place in (

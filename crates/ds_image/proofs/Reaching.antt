@@ -8,7 +8,6 @@ use Rattle.ds_base.specs.declared.names.Key.{Key}
 use Rattle.ds_base.specs.declared.sectors.Sector.{Sector}
 use Rattle.ds_image.specs.Asking.{Agrees, Given, IsFew, IsGuarded, Keeps, Locked, Reached, Start}
 use Rattle.ds_image.specs.Planning.{AllAreFew, AllKeep, Answers, Asks}
-use Rattle.ds_image.specs.Reaching.{AllGuarded, HasRoomFor}
 use Rattle.ds_image.specs.SeenValues.{SeenValue, has_lock, look_of, sector_in, with_lock, with_sector}
 use Rattle.ds_image.specs.Sound.{StandsFor}
 use Rattle.ds_image.specs.declared.asks.Ask.{Ask}
@@ -16,6 +15,19 @@ use Rattle.ds_image.specs.declared.asks.Ask.TheVariants.{Change, Done, Lock, Odd
 use Rattle.ds_image.proofs.Seeing.{sector_in-append}
 use Rattle.ds_tree.specs.Nodes.{FileTree}
 use Rattle.ds_tree.specs.declared.calls.CallOf.{CallOf}
+use Rattle.std.specs.Prelude.{⊤}
+
+-- the call holds the guard of each sector that it has read, by each image that stands for a tree and agrees with what was seen
+abbrev pub AllGuarded : Geom → SeenValue → Type 0
+AllGuarded g seen =
+    (image : List Sector) (t : FileTree) → StandsFor g image t → Agrees seen image
+    → (at : ℕ) (s : Sector) → look_of seen at ≡ Some s → IsGuarded g seen image at
+
+-- what is asked for was not seen before
+abbrev pub IsFresh : SeenValue → Ask → Type 0
+IsFresh seen (Lock object) = has_lock seen object ≡ false
+IsFresh seen (Read at) = look_of seen at ≡ None
+IsFresh seen _ = ⊤
 
 any-append : (object other : ℕ) (locks : List ℕ) → list_any (λ x. x == object) locks ≡ true → list_any (λ x. x == object) (locks ++ other ∷ []) ≡ true
 any-append object other locks is =
@@ -59,14 +71,15 @@ module _ (g : Geom) (call : CallOf Key) (answers : Answers) (keep : AllKeep g ca
       (record { object = one.object; guards = one.guards; held = one.held }))
       (sym (sector_in-append seen.sectors ((at, s) ∷ []) k) ∙ there)
 
-  pub has-room : AllAreFew g answers → (seen : SeenValue) (ask : Ask) → Reached (Asks g answers) seen → Asks g answers seen ask → HasRoomFor seen ask
-  has-room few seen ask reached asks =
-      room ask (kept seen ask asks) (subst (IsFew seen) (sym asks.answered) (few seen asks.parts asks.reads reached))
-    where
-      room : (ask : Ask) → Keeps g call seen asks.parts ask → IsFew seen ask → HasRoomFor seen ask
-      room (Lock object) keeps few = (keeps.form.1, few.0)
-      room (Read at) keeps few = (keeps.form.unread, few.1)
-      room (Odd at) keeps few = few
-      room (Worn object) keeps few = few
-      room (Done reply) keeps few = few
-      room (Change redo reply) keeps few = few
+  pub all-fresh : (seen : SeenValue) (ask : Ask) → Asks g answers seen ask → IsFresh seen ask
+  all-fresh seen (Lock object) asks = (kept seen (Lock object) asks).form.1
+  all-fresh seen (Read at) asks = (kept seen (Read at) asks).form.unread
+  all-fresh seen (Odd at) asks = tt
+  all-fresh seen (Worn object) asks = tt
+  all-fresh seen (Done reply) asks = tt
+  all-fresh seen (Change redo reply) asks = tt
+
+-- and there is room for it
+pub all-few : (g : Geom) (answers : Answers) → AllAreFew g answers → (seen : SeenValue) (ask : Ask) → Reached (Asks g answers) seen → Asks g answers seen ask
+    → IsFew seen ask
+all-few g answers few seen ask reached asks = subst (IsFew seen) (sym asks.answered) (few seen asks.parts asks.reads reached)

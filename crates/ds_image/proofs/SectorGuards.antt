@@ -17,7 +17,7 @@ use Rattle.ds_image.specs.Guards.{least_lister, lister_or, IsGuard}
 use Rattle.ds_image.specs.Looks.{Look}
 use Rattle.ds_image.specs.Owns.{Owns, IsAt, list_of}
 use Rattle.ds_image.specs.Parts.{Parts, bits_in}
-use Rattle.ds_image.specs.Readings.{Reads}
+use Rattle.ds_image.specs.Readings.{ReadsParts}
 use Rattle.ds_image.specs.Sound.{sub_lists, ptr_lists}
 
 -- Who lists an item
@@ -64,7 +64,7 @@ lister-unlisted lists n cluster none =
 
 -- The guards of sectors
 
-module _ (g : Geom) (look : Look) (p : Parts) (reads : Reads g look p) where
+module _ (g : Geom) (look : Look) (p : Parts) (reads : ReadsParts g look p) where
   pub guard-body : (o : ℕ) → o < items_of g Fd → IsGuard g look (place_sector g (places.Body o)) o
   guard-body o within = record { parts = p; reads = reads; place = places.Body o; is_place = within; here = refl; guards = refl }
 

@@ -9,9 +9,9 @@ use Rattle.ds_base.specs.declared.sectors.Sector.{Sector}
 use Rattle.ds_image.specs.Looks.{AreBlocks, IsBlock}
 use Rattle.ds_image.specs.Pending.{Pair}
 use Rattle.ds_image.specs.Parts.{Parts}
-use Rattle.ds_image.specs.Readings.{Reads}
+use Rattle.ds_image.specs.Readings.{ReadsParts}
 use Rattle.ds_image.specs.SeenValues.{SeenValue, look_of, sector_in, with_sector, IsSeen}
-use Rattle.ds_image.proofs.Readings.{parts_there}
+use Rattle.ds_image.proofs.Spelling.Readings.{parts_there}
 
 choice : {X : Type 0} (test : Bool) (x : X) (rest others : Option X)
     → (if test then Some x else option_or rest others) ≡ option_or (if test then Some x else rest) others
@@ -51,5 +51,5 @@ seen_sector seen at s is room block = record {
 }
 
 -- what a call has seen spells parts
-pub seen_read : (g : Geom) (seen : SeenValue) → IsGeom g → IsSeen seen → (p : Parts) × Reads g (look_of seen) p
+pub seen_read : (g : Geom) (seen : SeenValue) → IsGeom g → IsSeen seen → (p : Parts) × ReadsParts g (look_of seen) p
 seen_read g seen is_geom is = parts_there g (look_of seen) is_geom is.blocks

@@ -9,7 +9,7 @@ use Rattle.ds_layout.specs.declared.places.Place.{Place}
 use Rattle.ds_layout.specs.declared.places.Place.TheVariants.{Bitmap, Body, SubBlock, PtrBlock}
 use Rattle.ds_image.specs.Looks.{Look}
 use Rattle.ds_image.specs.Parts.{Parts}
-use Rattle.ds_image.specs.Readings.{Reads}
+use Rattle.ds_image.specs.Readings.{ReadsParts}
 use Rattle.ds_image.specs.Sound.{sub_lists, ptr_lists}
 
 -- the least descriptor that lists an item, or the number of descriptors where none does
@@ -32,7 +32,7 @@ guard_of g p _ = None
 -- the lock object protects the sector of an image
 pub record IsGuard (g : Geom) (look : Look) (at object : ℕ) : Type 0 where
   pub parts : Parts
-  pub reads : Reads g look parts
+  pub reads : ReadsParts g look parts
   pub place : Place
   pub is_place : IsPlace g place
   pub here : place_sector g place ≡ at

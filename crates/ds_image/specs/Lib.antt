@@ -21,7 +21,6 @@ pub mod Parents
 pub mod Parts
 pub mod Pending
 pub mod Planning
-pub mod Reaching
 pub mod ReadTrees
 pub mod Readings
 pub mod Replaced
@@ -30,5 +29,4 @@ pub mod SeenValues
 pub mod Sound
 pub mod SoundObjects
 pub mod SpelledParts
-pub mod TreeParents
 pub mod Users

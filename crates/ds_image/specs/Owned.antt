@@ -1,11 +1,6 @@
 -- How lists of items and marks change: items given to an object or given up by it, marked or cleared.
-use Rattle.std.specs.Prelude.{◌≡◌, ◌≢◌, ◌↔◌, ◌⊎◌, ℕ, ◌+◌, ◌<◌, Bool, true, false, List, ◌++◌, length, take, fold, Contains, Some, slice_get, slice_set}
-use Rattle.ds_image.specs.Owns.{list_of, bit}
-
--- object o lists these items behind those that it listed, and every other object lists what it did
-pub record AddsItems (lists : List (List ℕ)) (o : ℕ) (items : List ℕ) (more : List (List ℕ)) : Type 0 where
-  pub here : list_of more o ≡ list_of lists o ++ items
-  pub elsewhere : (p : ℕ) → p ≢ o → list_of more p ≡ list_of lists p
+use Rattle.std.specs.Prelude.{◌≡◌, ◌↔◌, ◌⊎◌, ℕ, ◌+◌, ◌<◌, Bool, true, false, List, length, take, fold, Contains, Some, slice_get, slice_set}
+use Rattle.ds_image.specs.Owns.{bit}
 
 -- these items can be marked: each is there and not marked, and none stands twice among them
 pub record CanMark (bits : List Bool) (items : List ℕ) : Type 0 where
@@ -16,11 +11,6 @@ pub record CanMark (bits : List Bool) (items : List ℕ) : Type 0 where
 pub record AddsMarks (bits : List Bool) (items : List ℕ) (after : List Bool) : Type 0 where
   pub count : length after ≡ length bits
   pub marks : (x : ℕ) → (bit after x ≡ true) ↔ ((bit bits x ≡ true) ⊎ Contains items x)
-
--- an item is marked exactly where it was before and is none of these
-pub record ClearsMarks (bits : List Bool) (items : List ℕ) (after : List Bool) : Type 0 where
-  pub count : length after ≡ length bits
-  pub marks : (x : ℕ) → (bit after x ≡ true) ↔ ((bit bits x ≡ true) × ¬ Contains items x)
 
 -- the marks with those of these items set one after another
 abbrev pub with_marks : List Bool → List ℕ → Bool → List Bool

@@ -57,7 +57,7 @@ pub record IsReading {V : Type 0} (n : ℕ) (Spells : ℕ → V → Type 0) (par
   pub each : (i : ℕ) → i < n → IsDecoded (part_at parts i) (Spells i)
 
 -- these are the parts of the volume that is looked at
-pub record Reads (g : Geom) (look : Look) (p : Parts) : Type 0 where
+pub record ReadsParts (g : Geom) (look : Look) (p : Parts) : Type 0 where
   pub bodies : IsReading (items_of g Fd) (SpellsBody g look) p.bodies
   pub maps : (kind : Kind) → IsReading (clusters_of g kind) (SpellsBits g look kind) (maps_of p kind)
   pub subs : IsReading (items_of g Sb) (SpellsSub g look) p.subs

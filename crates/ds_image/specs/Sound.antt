@@ -12,7 +12,7 @@ use Rattle.ds_tree.specs.WellFormed.{IsTree}
 use Rattle.ds_image.specs.Objects.{is_used, subs_of, ptrs_of, blocks_of, tail_of, used_rooms, tree_of}
 use Rattle.ds_image.specs.Owns.{Owns, IsAt}
 use Rattle.ds_image.specs.Parts.{Parts, part_at, AllSpelled, maps_of, bits_in}
-use Rattle.ds_image.specs.Readings.{Reads}
+use Rattle.ds_image.specs.Readings.{ReadsParts}
 
 -- the items that each descriptor lists
 abbrev pub sub_lists : Parts → List (List ℕ)
@@ -62,7 +62,7 @@ pub record StandsFor (g : Geom) (image : List Sector) (t : FileTree) : Type 0 wh
   pub parts : Parts
   -- the image has the sectors of all bodies, bitmaps, sub-blocks and pointer blocks, also of items that nobody lists
   pub whole : blocks_at g ≤ length image
-  pub reads : Reads g (slice_get image) parts
+  pub reads : ReadsParts g (slice_get image) parts
   pub sound : IsSound parts
   pub tree : t ≡ tree_of parts
   pub is_tree : IsTree g t

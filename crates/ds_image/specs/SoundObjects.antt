@@ -10,7 +10,7 @@ use Rattle.ds_image.specs.Looks.{Look}
 use Rattle.ds_image.specs.Objects.{is_used, subs_of, ptrs_of, tail_of, used_rooms}
 use Rattle.ds_image.specs.Owns.{Owns}
 use Rattle.ds_image.specs.Parts.{Parts, part_at, maps_of, bits_in}
-use Rattle.ds_image.specs.Readings.{Reads}
+use Rattle.ds_image.specs.Readings.{ReadsParts}
 use Rattle.ds_image.specs.Sound.{IsNamedRight, AreZero, sub_lists, ptr_lists, block_lists}
 
 -- these are the parts of some volume
@@ -18,7 +18,7 @@ pub record AreRead (p : Parts) : Type 0 where
   pub geom : Geom
   pub look : Look
   pub is_geom : IsGeom geom
-  pub reads : Reads geom look p
+  pub reads : ReadsParts geom look p
 
 -- no two entries have one name
 abbrev pub AreNamesApart : List Entry → Type 0

@@ -6,7 +6,7 @@ ghost use Rattle.ds_fd.specs.declared.body.Body.{Body};
 ghost use Rattle.ds_image.specs.Looks.{Look};
 ghost use Rattle.ds_image.specs.Objects.{is_used, used_rooms, entries_of, object_of, tree_of};
 ghost use Rattle.ds_image.specs.Parts.{part_at};
-ghost use Rattle.ds_image.specs.Readings.{Reads};
+ghost use Rattle.ds_image.specs.Readings.{ReadsParts};
 ghost use Rattle.ds_image.specs.Sound.{IsSound};
 ghost use Rattle.ds_image.specs.SoundObjects.{AreNamesApart};
 ghost use Rattle.ds_tree.specs.Nodes.{Dir, node_at, with_object};
@@ -26,7 +26,7 @@ pub(crate) fn tree_of<S: Store>(
     parts: &PartsInMemory<S>,
 ) -> Result<Tree, NoMemory>
     requires geom { IsGeom geom.now }
-    requires reads { (look : Look) × Reads geom.now look parts.now }
+    requires reads { (look : Look) × ReadsParts geom.now look parts.now }
     requires sound { IsSound parts.now }
     requires tree { IsTree geom.now (tree_of parts.now) }
     ensures geom { IfOk result (λ t. t.geom ≡ geom.now) }

@@ -8,7 +8,7 @@ ghost use Rattle.ds_image.specs.Guards.{lister_or, guard_of, IsGuard};
 ghost use Rattle.ds_image.specs.Listers.{listed_of, listed_lists};
 ghost use Rattle.ds_layout.specs.Metadata.{IsMetadata};
 ghost use Rattle.ds_image.specs.Parts.{Parts, part_at};
-ghost use Rattle.ds_image.specs.Readings.{SpellsBody, Reads};
+ghost use Rattle.ds_image.specs.Readings.{SpellsBody, ReadsParts};
 
 use crate::images::Image;
 use crate::listings::{ptrs_of, subs_of};
@@ -29,7 +29,7 @@ pub fn guard<S: Store>(image: &Image<S>, at: SectorNo) -> Option<ObjNo>
 
 fn guard_of<S: Store>(image: &Image<S>, place: &Place) -> Option<ObjNo>
     requires { IsPlace image.now.geom place.now }
-    ensures { (p : Parts) → Reads image.now.geom (slice_get image.now.sectors) p
+    ensures { (p : Parts) → ReadsParts image.now.geom (slice_get image.now.sectors) p
         → result ≡ guard_of image.now.geom p place.now }
 {
     match *place {
@@ -60,7 +60,7 @@ fn lock_of_item(geom: &Geom, kind: Kind, n: u32) -> ObjNo
 
 /// The least descriptor of the kind that lists the item, or else this cluster.
 fn lister_or<S: Store>(image: &Image<S>, kind: NodeKind, n: u32, cluster: ObjNo) -> ObjNo
-    ensures { (p : Parts) → Reads image.now.geom (slice_get image.now.sectors) p
+    ensures { (p : Parts) → ReadsParts image.now.geom (slice_get image.now.sectors) p
         → result ≡ lister_or (listed_lists kind p) n cluster }
 {
     for object in 0..descriptors(image.geom()) {
@@ -81,7 +81,7 @@ fn descriptors(geom: &Geom) -> u32
 /// Whether a descriptor is of the kind and lists the item.
 fn lists<S: Store>(image: &Image<S>, kind: NodeKind, object: ObjNo, n: u32) -> bool
     requires { object < items_of image.now.geom Kind.Fd }
-    ensures { (p : Parts) → Reads image.now.geom (slice_get image.now.sectors) p
+    ensures { (p : Parts) → ReadsParts image.now.geom (slice_get image.now.sectors) p
         → result ≡ list_any (λ x. x == n) (listed_of kind (part_at p.bodies object)) }
 {
     let body = body_at(image, object);

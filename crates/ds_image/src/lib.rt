@@ -4,15 +4,11 @@
 mod asks;
 mod bad_sectors;
 mod building;
-#[cfg(test)]
-mod format_tests;
 mod formatting;
 mod guards;
 mod images;
 mod listings;
 mod logical;
-#[cfg(test)]
-mod logical_tests;
 mod marks;
 mod name_counts;
 mod owners;
@@ -25,8 +21,6 @@ mod seen;
 mod sound_objects;
 mod soundness;
 mod stores;
-#[cfg(test)]
-mod tree_tests;
 mod trees;
 mod users;
 

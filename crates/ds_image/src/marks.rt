@@ -107,37 +107,3 @@ impl Marks {
         bits.len() <= rest.len() && &rest[..bits.len()] == bits
     }
 }
-
-#[cfg(test)]
-mod tests {
-    use super::*;
-    use std::test::Fail;
-
-    #[test]
-    fn marks_list_after_list(rt: HostRuntime) -> Result<(), Fail> {
-        let mut marks = Marks::new(rt.alloc(), 8)?;
-        assert!(rt; marks.mark_list(&[5, 0]));
-        assert!(rt; marks.mark_list(&[]));
-        assert!(rt; marks.mark_list(&[7, 2, 1]));
-        assert!(rt; marks.are(&[true, true, true, false, false, true, false, true]));
-        assert!(rt; !marks.are(&[true, true, true, false, false, true, false]));
-        assert!(rt; marks.are_from(5, &[true, false, true]));
-        assert!(rt; !marks.are_from(6, &[false, true, false]));
-        assert!(rt; marks.are_from(9, &[]));
-        assert!(rt; marks.is_marked(7));
-        assert!(rt; !marks.is_marked(8));
-        Ok(())
-    }
-
-    #[test]
-    fn stops_at_an_item_listed_twice_or_not_there(rt: HostRuntime) -> Result<(), Fail> {
-        let mut marks = Marks::new(rt.alloc(), 4)?;
-        assert!(rt; !marks.mark_list(&[1, 3, 1]));
-        assert!(rt; marks.are(&[false, true, false, true]));
-        assert!(rt; !marks.mark_list(&[0, 3, 2]));
-        assert!(rt; marks.are(&[true, true, false, true]));
-        assert!(rt; !marks.mark_list(&[2, 4]));
-        assert!(rt; marks.are(&[true, true, true, true]));
-        Ok(())
-    }
-}

@@ -72,23 +72,3 @@ impl NameCounts {
         }
     }
 }
-
-#[cfg(test)]
-mod tests {
-    use super::*;
-    use std::test::Fail;
-
-    #[test]
-    fn counts_each_name(rt: HostRuntime) -> Result<(), Fail> {
-        let mut names = NameCounts::new(rt.alloc(), 3)?;
-        names.note(1);
-        names.note(2);
-        names.note(1);
-        names.note(1);
-        assert_eq!(rt; names.of(0), 0);
-        assert_eq!(rt; names.of(1), 3);
-        assert_eq!(rt; names.of(2), 1);
-        assert_eq!(rt; names.of(3), 0);
-        Ok(())
-    }
-}

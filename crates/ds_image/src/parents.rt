@@ -131,32 +131,3 @@ fn reached_by(alloc: Global, seen: &[Option<usize>], leads: &[bool]) -> Result<V
     }
     Ok(reached)
 }
-
-#[cfg(test)]
-mod tests {
-    use super::*;
-    use std::test::Fail;
-
-    #[test]
-    fn tells_what_is_reached(rt: HostRuntime) -> Result<(), Fail> {
-        let none = reached(rt.alloc(), &[])?;
-        assert_eq!(rt; none.len(), 0);
-
-        // 3 leads by 2 and 1 to the root; 4 and 5 lead to each other, and 6 to them; 7 has no parent, 8 one that isn't there.
-        let parents = [
-            None,
-            Some(0),
-            Some(1),
-            Some(2),
-            Some(5),
-            Some(4),
-            Some(4),
-            None,
-            Some(9),
-        ];
-        let which = reached(rt.alloc(), &parents)?;
-        let wanted = [true, true, true, true, false, false, false, false, false];
-        assert_eq!(rt; which.as_slice(), wanted.as_slice());
-        Ok(())
-    }
-}

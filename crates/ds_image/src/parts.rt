@@ -5,7 +5,7 @@ ghost use Rattle.ds_base.specs.Geometry.{IsGeom, clusters_of, items_of};
 ghost use Rattle.ds_base.specs.declared.geometry.Kind.TheVariants as kinds;
 ghost use Rattle.ds_image.specs.ImageValues.{IsImage};
 ghost use Rattle.ds_image.specs.Parts.{maps_of, part_at};
-ghost use Rattle.ds_image.specs.Readings.{SpellsBody, SpellsBits, SpellsSub, SpellsPtr, IsReading, Reads};
+ghost use Rattle.ds_image.specs.Readings.{SpellsBody, SpellsBits, SpellsSub, SpellsPtr, IsReading, ReadsParts};
 
 use crate::images::Image;
 use crate::stores::Store;
@@ -51,7 +51,7 @@ impl<'a, S: Store> Model for PartsInMemory<'a, S> {
 impl<'a, S: Store> PartsInMemory<'a, S> {
     /// Decodes all bodies and bitmaps of an image.
     pub fn read(alloc: Global, image: &'a Image<'a, S>) -> Result<PartsInMemory<'a, S>, NoMemory>
-        ensures { IfOk result (λ p. Reads image.now.geom (slice_get image.now.sectors) p) }
+        ensures { IfOk result (λ p. ReadsParts image.now.geom (slice_get image.now.sectors) p) }
     {
         // This shows that the image has all sectors in front of the file blocks.
         let _geom = image.geom();
@@ -143,7 +143,7 @@ fn maps_of<S: Store>(
 }
 
 /// The body that a descriptor's sector spells.
-#[tactic(auto, using(crate::proofs::Decoded::numbered_at))]
+#[tactic(auto, using(crate::proofs::Spelling::Decoded::numbered_at))]
 fn body_of<S: Store>(image: &Image<S>, object: ObjNo) -> Option<Body>
     requires { object < items_of image.now.geom kinds.Fd }
     ensures { IsDecoded result (SpellsBody image.now.geom (slice_get image.now.sectors) object) }
@@ -153,7 +153,7 @@ fn body_of<S: Store>(image: &Image<S>, object: ObjNo) -> Option<Body>
 }
 
 /// The bitmap that a cluster's sector spells.
-#[tactic(auto, using(crate::proofs::Decoded::spelled_at))]
+#[tactic(auto, using(crate::proofs::Spelling::Decoded::spelled_at))]
 fn bits_of<S: Store>(image: &Image<S>, kind: Kind, cluster: u8) -> Option<Bits>
     requires { cluster < clusters_of image.now.geom kind }
     ensures { IsDecoded result (SpellsBits image.now.geom (slice_get image.now.sectors) kind cluster) }
@@ -163,7 +163,7 @@ fn bits_of<S: Store>(image: &Image<S>, kind: Kind, cluster: u8) -> Option<Bits>
 }
 
 /// The sub-block that a sector spells.
-#[tactic(auto, using(crate::proofs::Decoded::spelled_at))]
+#[tactic(auto, using(crate::proofs::Spelling::Decoded::spelled_at))]
 fn sub_of<S: Store>(image: &Image<S>, number: u32) -> Option<SubBlock>
     requires { number < items_of image.now.geom kinds.Sb }
     ensures { IsDecoded result (SpellsSub image.now.geom (slice_get image.now.sectors) number) }

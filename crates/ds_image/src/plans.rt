@@ -7,7 +7,7 @@ ghost use Rattle.ds_tree.specs.CallNames.{HasNames};
 ghost use Rattle.ds_tree.specs.declared.calls.CallOf.{CallOf};
 ghost use Rattle.ds_image.specs.Parts.{Parts};
 ghost use Rattle.ds_image.specs.Planning.{Answers, AllAreAllowed, AllAreFew, AllKeep};
-ghost use Rattle.ds_image.specs.Readings.{Reads};
+ghost use Rattle.ds_image.specs.Readings.{ReadsParts};
 ghost use Rattle.ds_image.specs.SeenValues.{look_of};
 
 use crate::asks::Ask;
@@ -28,7 +28,7 @@ pub trait Plan {
     ghost answers: { Self → Answers };
 
     fn ask(&self, seen: &Seen) -> Ask
-        ensures { (p : Parts) → Reads (geom self.now) (look_of seen.now) p → result ≡ answers self.now seen.now p };
+        ensures { (p : Parts) → ReadsParts (geom self.now) (look_of seen.now) p → result ≡ answers self.now seen.now p };
 
     /// Each answer is of its form, and right for each image that agrees with what was seen.
     ghost keeps: { (plan : Self) → IsGeom (geom plan) → HasNames (call plan) → AllKeep (geom plan) (call plan) (answers plan) };

@@ -26,7 +26,7 @@ pub fn sector_at<S: Store>(geom: &Geom, store: &S, place: &Place) -> Sector
 }
 
 /// The slot that its sector spells.
-#[tactic(auto, using(crate::proofs::Decoded::spelled_at))]
+#[tactic(auto, using(crate::proofs::Spelling::Decoded::spelled_at))]
 pub fn slot_at<S: Store>(geom: &Geom, store: &S, number: SlotNo) -> Option<Slot>
     requires geom { IsGeom geom.now }
     requires size { length (S.sectors store.now) ≡ total_of geom.now }
@@ -49,7 +49,7 @@ pub fn header_at<S: Store>(geom: &Geom, store: &S, object: ObjNo) -> Option<Head
 }
 
 /// The index that the last sector of a slot's journal spells; `None` where it spells none.
-#[tactic(auto, using(crate::proofs::Decoded::spelled_at))]
+#[tactic(auto, using(crate::proofs::Spelling::Decoded::spelled_at))]
 pub fn index_at<S: Store>(geom: &Geom, store: &S, slot: SlotNo) -> Option<Index>
     requires geom { IsGeom geom.now }
     requires size { length (S.sectors store.now) ≡ total_of geom.now }

@@ -144,27 +144,3 @@ impl Users {
         }
     }
 }
-
-#[cfg(test)]
-mod tests {
-    use super::*;
-    use std::test::Fail;
-
-    #[test]
-    fn keeps_the_first_two_users(rt: HostRuntime) -> Result<(), Fail> {
-        let mut table = Users::new(rt.alloc(), 3)?;
-        table.note(2, 4);
-        table.note(0, 4);
-        table.note(2, 4);
-        table.note(2, 9);
-        assert_eq!(rt; table.first(0), Some(4));
-        assert_eq!(rt; table.second(0), None);
-        assert_eq!(rt; table.first(1), None);
-        assert_eq!(rt; table.first(2), Some(4));
-        assert_eq!(rt; table.second(2), Some(4));
-        assert_eq!(rt; table.first(3), None);
-        let firsts = table.firsts(rt.alloc())?;
-        assert_eq!(rt; firsts.as_slice(), [Some(4), None, Some(4)].as_slice());
-        Ok(())
-    }
-}

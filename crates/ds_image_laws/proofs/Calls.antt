@@ -26,11 +26,11 @@ use Rattle.ds_layout.specs.Metadata.{front_of}
 use Rattle.ds_image.specs.Parts.{Parts}
 use Rattle.ds_image.specs.Pending.{Pair, ArePending}
 use Rattle.ds_image.specs.Planning.{Answers, AllKeep}
-use Rattle.ds_image.specs.Readings.{Reads, SpellsSlot}
+use Rattle.ds_image.specs.Readings.{ReadsParts, SpellsSlot}
 use Rattle.ds_image.specs.Sound.{StandsFor}
 use Rattle.ds_image.specs.declared.asks.Ask.TheVariants.{Odd, Done, Change}
-use Rattle.ds_image.proofs.LaidOver.{length-laid_over}
-use Rattle.ds_image.proofs.OneLogical.{logical_once, pending_once}
+use Rattle.ds_image.proofs.Journaling.LaidOver.{length-laid_over}
+use Rattle.ds_image.proofs.Journaling.OneLogical.{logical_once, pending_once}
 use Rattle.ds_image_laws.specs.Calls.{CallKnows, Commits}
 use Rattle.ds_image_laws.specs.Kept.{Knows, is_target}
 use Rattle.ds_image_laws.specs.Owners.{Names}
@@ -136,7 +136,7 @@ module _ (g : Geom) (is : IsGeom g) (sectors image : List Sector) (t : FileTree)
 
     -- the planner's answers, by what was seen whenever that was
 
-    module _ (asked : CallOf Key) (answers : Answers) (law : AllKeep g asked answers) (p : Parts) (reads : Reads g (look_of seen) p) where
+    module _ (asked : CallOf Key) (answers : Answers) (law : AllKeep g asked answers) (p : Parts) (reads : ReadsParts g (look_of seen) p) where
       pub call-change : (redo : Redo) (reply : TreeReply) → answers seen p ≡ Change redo reply → Commits g sectors image t number asked redo.pairs.items reply
       call-change redo reply answered =
           let right = own-change g asked answers seen p redo reply image t law reads answered holds.stands call.knows in

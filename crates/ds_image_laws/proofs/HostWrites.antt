@@ -32,10 +32,10 @@ use Rattle.ds_layout.specs.Metadata.{IsMetadata, front_of}
 use Rattle.ds_image.specs.Parts.{Parts}
 use Rattle.ds_image.specs.Pending.{Pair, AreOfJournal}
 use Rattle.ds_image.specs.Planning.{Answers, AllKeep}
-use Rattle.ds_image.specs.Readings.{Reads, SpellsHeader, SpellsSlot}
+use Rattle.ds_image.specs.Readings.{ReadsParts, SpellsHeader, SpellsSlot}
 use Rattle.ds_image.specs.SeenValues.{SeenValue, look_of}
 use Rattle.ds_image.specs.declared.asks.Ask.TheVariants.{Change}
-use Rattle.ds_image.proofs.FreshVolume.{same_bytes, slot_spelled, front_is_logical, fresh_stands}
+use Rattle.ds_image.proofs.NewVolumes.FreshVolume.{same_bytes, slot_spelled, front_is_logical, fresh_stands}
 use Rattle.ds_image_laws.specs.Calls.{CallKnows, Commits}
 use Rattle.ds_image_laws.specs.ImageSteps as steps
 use Rattle.ds_image_laws.specs.ImageSteps.{Commit, IsRewritten, ImageStep}
@@ -119,7 +119,7 @@ ready-journal g sectors number generation txn count pairs targets many ready = (
 -- a host commits what its planner answered to what it has seen
 pub commit-step : (g : Geom) (is : IsGeom g) (sectors image : List Sector) (t : FileTree) (whole : blocks_at g ≤ length sectors)
     → HoldsImage g sectors (Names g sectors) image t → (number : ℕ) (seen : SeenValue) → CallKnows g sectors image number seen
-    → (call : CallOf Key) (answers : Answers) → AllKeep g call answers → (p : Parts) → Reads g (look_of seen) p
+    → (call : CallOf Key) (answers : Answers) → AllKeep g call answers → (p : Parts) → ReadsParts g (look_of seen) p
     → (redo : Redo) (reply : TreeReply) → answers seen p ≡ Change redo reply
     → (s : Sector) (old new : Slot) (txn : ℕ) → IsRewritten g sectors number s old new → old.journal ≡ Idle → new.generation ≡ old.generation
     → new.journal ≡ Committed txn (length redo.pairs.items) → IsReady g sectors number new.generation txn redo.pairs.items

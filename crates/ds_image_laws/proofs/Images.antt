@@ -12,7 +12,7 @@ use Rattle.ds_image.specs.Asking.{targets_of}
 use Rattle.ds_image.specs.Logical.{laid_over}
 use Rattle.ds_image.specs.Looks.{Look}
 use Rattle.ds_image.specs.Pending.{Pair, ArePending}
-use Rattle.ds_image.proofs.OneLogical.{pending_once}
+use Rattle.ds_image.proofs.Journaling.OneLogical.{pending_once}
 use Rattle.ds_image_laws.specs.Kept.{Knows, is_target}
 use Rattle.ds_image_laws.specs.Shown.{SameMetadata, Shows, AreInPlace, MakesImage, HoldsImage}
 use Rattle.ds_image_laws.proofs.Known.{laid-outside, guarded-kept, knows-kept}

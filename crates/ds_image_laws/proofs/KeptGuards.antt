@@ -20,16 +20,16 @@ use Rattle.ds_image.specs.Looks.{Look}
 use Rattle.ds_image.specs.Objects.{subs_of, ptrs_of}
 use Rattle.ds_image.specs.Owns.{Owns, IsAt, list_of, bit}
 use Rattle.ds_image.specs.Parts.{Parts, part_at, maps_of, bits_in, used_bits}
-use Rattle.ds_image.specs.Readings.{SpellsBody, SpellsBits, Reads}
+use Rattle.ds_image.specs.Readings.{SpellsBody, SpellsBits, ReadsParts}
 use Rattle.ds_image.specs.Sound.{IsSound, StandsFor}
-use Rattle.ds_image.proofs.Decoded.{decoded_same, decoded_as}
-use Rattle.ds_image.proofs.Readings.{parts_same}
+use Rattle.ds_image.proofs.Spelling.Decoded.{decoded_same, decoded_as}
+use Rattle.ds_image.proofs.Spelling.Readings.{parts_same}
 use Rattle.ds_image.proofs.SectorGuards.{lister-listed, lister-unlisted, guard-body, guard-map}
 use Rattle.ds_image.proofs.MarksByCluster.{each-item}
 use Rattle.ds_image.proofs.SameSectors.{body-as, bits-as}
 use Rattle.ds_image_laws.proofs.Apart.{AgreeOutside}
 
-module _ (g : Geom) (look look' : Look) (p p' : Parts) (reads : Reads g look p) (reads' : Reads g look' p') (sound : IsSound p) (sound' : IsSound p')
+module _ (g : Geom) (look look' : Look) (p p' : Parts) (reads : ReadsParts g look p) (reads' : ReadsParts g look' p') (sound : IsSound p) (sound' : IsSound p')
     (Others : ℕ → Type 0) (same : (at object : ℕ) → IsGuard g look at object → ¬ Others object → look' at ≡ look at) where
   -- the bodies and the bitmaps of objects that nobody else holds
   pub body-same : (o : ℕ) → o < items_of g Fd → ¬ Others o → part_at p'.bodies o ≡ part_at p.bodies o

@@ -21,12 +21,12 @@ use Rattle.ds_image.specs.Looks.{Look}
 use Rattle.ds_image.specs.Objects.{subs_by, ptrs_by, addresses_in, rooms_in, rooms_of, node_by, object_of, tree_of, subs_of, ptrs_of}
 use Rattle.ds_image.specs.Owns.{IsAt}
 use Rattle.ds_image.specs.Parts.{Parts, part_at}
-use Rattle.ds_image.specs.Readings.{SpellsSub, SpellsPtr, Reads}
+use Rattle.ds_image.specs.Readings.{SpellsSub, SpellsPtr, ReadsParts}
 use Rattle.ds_image.specs.Sound.{IsSound, StandsFor, sub_lists, ptr_lists}
-use Rattle.ds_image.proofs.Decoded.{decoded_same, decoded_as}
-use Rattle.ds_image.proofs.Listed.{sub_listed_within, ptr_listed_within}
-use Rattle.ds_image.proofs.SoundParts.{list-is}
-use Rattle.ds_image.proofs.TreeParts.{object-is}
+use Rattle.ds_image.proofs.Spelling.Decoded.{decoded_same, decoded_as}
+use Rattle.ds_image.proofs.Ownership.Listed.{sub_listed_within, ptr_listed_within}
+use Rattle.ds_image.proofs.Spelling.SoundParts.{list-is}
+use Rattle.ds_image.proofs.FileTrees.TreeParts.{object-is}
 use Rattle.ds_image.proofs.SectorGuards.{guard-sub_listed, guard-ptr_listed}
 use Rattle.ds_image_laws.proofs.KeptGuards.{body-same}
 use Rattle.ds_image.proofs.SameSectors.{sub-as, ptr-as}
@@ -61,7 +61,7 @@ module _ (p q : Parts) where
   object-same None subs ptrs = refl
   object-same (Some b) subs ptrs = ap (λ (node : Option Node). record { birth = b.birth; node = node }) (node-same b b.kind subs ptrs)
 
-module _ (g : Geom) (look look' : Look) (p p' : Parts) (reads : Reads g look p) (reads' : Reads g look' p') (sound : IsSound p) (sound' : IsSound p')
+module _ (g : Geom) (look look' : Look) (p p' : Parts) (reads : ReadsParts g look p) (reads' : ReadsParts g look' p') (sound : IsSound p) (sound' : IsSound p')
     (Others : ℕ → Type 0) (same : (at object : ℕ) → IsGuard g look at object → ¬ Others object → look' at ≡ look at) (object : ℕ) (free : ¬ Others object) where
   sub-same : (i n : ℕ) → IsAt (sub_lists p) object i n → part_at p'.subs n ≡ part_at p.subs n
   sub-same i n at =

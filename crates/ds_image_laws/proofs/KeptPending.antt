@@ -25,11 +25,11 @@ use Rattle.ds_image.specs.Looks.{Look, HasBytes}
 use Rattle.ds_layout.specs.Metadata.{IsMetadata}
 use Rattle.ds_image.specs.Pending.{Pair, AreOfJournal, AreOfSlot, ArePending}
 use Rattle.ds_image.specs.Readings.{SpellsSlot}
-use Rattle.ds_image.proofs.Decoded.{decoded_same, decoded_as}
-use Rattle.ds_image.proofs.FreshLists.{decoded_one}
-use Rattle.ds_image.proofs.FreshVolume.{same_bytes}
-use Rattle.ds_image.proofs.OneLogical.{pending_once}
-use Rattle.ds_image.proofs.LaidOver.{slice_get-set_other, slice_get-set_same}
+use Rattle.ds_image.proofs.Spelling.Decoded.{decoded_same, decoded_as}
+use Rattle.ds_image.proofs.NewVolumes.FreshLists.{decoded_one}
+use Rattle.ds_image.proofs.NewVolumes.FreshVolume.{same_bytes}
+use Rattle.ds_image.proofs.Journaling.OneLogical.{pending_once}
+use Rattle.ds_image.proofs.Journaling.LaidOver.{slice_get-set_other, slice_get-set_same}
 use Rattle.ds_image_laws.specs.Shown.{IsIdle, IsHarmless}
 use Rattle.ds_image.proofs.SameSectors.{has-same, slot-as}
 

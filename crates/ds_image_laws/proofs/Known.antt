@@ -13,7 +13,7 @@ use Rattle.ds_base.specs.declared.sectors.Sector.{Sector}
 use Rattle.ds_tree.specs.Nodes.{FileTree}
 use Rattle.ds_tree.specs.declared.calls.CallOf.{CallOf}
 use Rattle.ds_tree.specs.declared.calls.TreeReply.{TreeReply}
-use Rattle.ds_image.proofs.LaidOver.{slice_get-set_other}
+use Rattle.ds_image.proofs.Journaling.LaidOver.{slice_get-set_other}
 use Rattle.ds_image.specs.Guards.{GuardedBy, IsGuard}
 use Rattle.ds_image.specs.SeenValues.{HoldsLock, SeenValue, has_lock, look_of, sector_in, with_lock, with_sector}
 use Rattle.ds_image.specs.Asking.{targets_of, IsGuarded, IsReadable, IsRightChange, Keeps}
@@ -22,7 +22,7 @@ use Rattle.ds_image.specs.Looks.{Look}
 use Rattle.ds_image.specs.Parts.{Parts}
 use Rattle.ds_image.specs.Pending.{Pair}
 use Rattle.ds_image.specs.Planning.{Answers, AllKeep}
-use Rattle.ds_image.specs.Readings.{Reads}
+use Rattle.ds_image.specs.Readings.{ReadsParts}
 use Rattle.ds_image.specs.Sound.{StandsFor}
 use Rattle.ds_image.specs.declared.asks.Ask.TheVariants.{Change}
 use Rattle.ds_jrnl.specs.declared.redo.Redo.{Redo}
@@ -188,7 +188,7 @@ knows-read g seen at s image t stands readable there knows =
 -- The planner's answer, at any image that holds what was seen
 
 pub own-change : (g : Geom) (call : CallOf Key) (answers : Answers) (seen : SeenValue) (p : Parts) (redo : Redo) (reply : TreeReply) (image : List Sector) (t : FileTree)
-    → AllKeep g call answers → Reads g (look_of seen) p → answers seen p ≡ Change redo reply → StandsFor g image t → Knows g (HoldsLock seen) (look_of seen) image
+    → AllKeep g call answers → ReadsParts g (look_of seen) p → answers seen p ≡ Change redo reply → StandsFor g image t → Knows g (HoldsLock seen) (look_of seen) image
     → IsRightChange g call seen image t redo.pairs.items reply
 own-change g call answers seen p redo reply image t law reads answered stands knows =
     (subst (Keeps g call seen p) answered (law seen p reads)).right image t stands knows.agrees

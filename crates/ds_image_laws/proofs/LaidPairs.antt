@@ -6,7 +6,7 @@ use Rattle.std.proofs.lemmas.Option.{same_Some, slice_get-get_or}
 use Rattle.ds_base.specs.declared.sectors.Sector.{Sector}
 use Rattle.ds_image.specs.Logical.{laid_over}
 use Rattle.ds_image.specs.Pending.{Pair}
-use Rattle.ds_image.proofs.LaidOver.{picked, laid_get, length-laid_over}
+use Rattle.ds_image.proofs.Journaling.LaidOver.{picked, laid_get, length-laid_over}
 use Rattle.ds_image_laws.specs.Kept.{is_target}
 use Rattle.ds_image_laws.specs.Laws.{ShareNoTarget}
 use Rattle.ds_image_laws.specs.Shown.{AreInPlace}

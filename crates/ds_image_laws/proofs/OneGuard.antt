@@ -11,11 +11,11 @@ use Rattle.ds_image.specs.Guards.{guard_of, IsGuard}
 use Rattle.ds_image.specs.Looks.{Look}
 use Rattle.ds_layout.specs.Metadata.{IsMetadata, is_metadata}
 use Rattle.ds_image.specs.Parts.{Parts}
-use Rattle.ds_image.specs.Readings.{Reads}
-use Rattle.ds_image.proofs.Readings.{parts_same}
+use Rattle.ds_image.specs.Readings.{ReadsParts}
+use Rattle.ds_image.proofs.Spelling.Readings.{parts_same}
 
 -- the guard of a place's sector, by the parts that are known
-pub guard-by_place : (g : Geom) (look : Look) (p : Parts) (place : Place) (object : ℕ) → IsGeom g → Reads g look p → IsPlace g place
+pub guard-by_place : (g : Geom) (look : Look) (p : Parts) (place : Place) (object : ℕ) → IsGeom g → ReadsParts g look p → IsPlace g place
     → IsGuard g look (place_sector g place) object → guard_of g p place ≡ Some object
 guard-by_place g look p place object is reads inside guard =
     let parts : guard.parts ≡ p = parts_same g look guard.parts p guard.reads reads in

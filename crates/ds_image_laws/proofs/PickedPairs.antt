@@ -9,7 +9,7 @@ use Rattle.std.proofs.lemmas.Option.{same_Some}
 use Rattle.ds_base.specs.declared.sectors.Sector.{Sector}
 use Rattle.ds_image.specs.Asking.{targets_of}
 use Rattle.ds_image.specs.Pending.{Pair}
-use Rattle.ds_image.proofs.LaidOver.{picked}
+use Rattle.ds_image.proofs.Journaling.LaidOver.{picked}
 use Rattle.ds_image_laws.specs.Kept.{is_target}
 use Rattle.ds_image_laws.specs.Shown.{AreInPlace}
 

@@ -10,15 +10,15 @@ use Rattle.ds_layout.specs.declared.places.Place.TheVariants as places
 use Rattle.ds_image.specs.Guards.{IsGuard}
 use Rattle.ds_image.specs.Logical.{IsLogical}
 use Rattle.ds_image.specs.Parts.{Parts, maps_of}
-use Rattle.ds_image.specs.Readings.{SpellsBody, SpellsBits, SpellsSub, SpellsPtr, Reads}
+use Rattle.ds_image.specs.Readings.{SpellsBody, SpellsBits, SpellsSub, SpellsPtr, ReadsParts}
 use Rattle.ds_image.specs.Sound.{StandsFor}
-use Rattle.ds_image.proofs.OneLogical.{logical_once}
+use Rattle.ds_image.proofs.Journaling.OneLogical.{logical_once}
 use Rattle.ds_layout.proofs.MetadataPlaces.{body-metadata, map-metadata, sub-metadata, ptr-metadata}
 use Rattle.ds_image_laws.specs.Shown.{SameMetadata, Shows}
 use Rattle.ds_image.proofs.SameSectors.{reading-as, body-as, bits-as, sub-as, ptr-as}
 
 module _ (g : Geom) (image other : List Sector) (same : SameMetadata g image other) where
-  pub reads-same : (p : Parts) → Reads g (slice_get image) p → Reads g (slice_get other) p
+  pub reads-same : (p : Parts) → ReadsParts g (slice_get image) p → ReadsParts g (slice_get other) p
   reads-same p reads = record {
     bodies = reading-as (items_of g Fd) (SpellsBody g (slice_get image)) (SpellsBody g (slice_get other)) p.bodies
         (λ o l. body-as g (slice_get image) (slice_get other) o (sym (same (place_sector g (places.Body o)) (body-metadata g o l))))

@@ -20,7 +20,7 @@ use Rattle.ds_image.specs.Looks.{Look}
 use Rattle.ds_image.specs.Parts.{Parts}
 use Rattle.ds_image.specs.Pending.{Pair, ArePending}
 use Rattle.ds_image.specs.Planning.{Answers, AllKeep}
-use Rattle.ds_image.specs.Readings.{Reads}
+use Rattle.ds_image.specs.Readings.{ReadsParts}
 use Rattle.ds_image.specs.SeenValues.{SeenValue, HoldsLock, look_of}
 use Rattle.ds_image.specs.Sound.{StandsFor}
 use Rattle.ds_image.specs.declared.asks.Ask.{Ask}
@@ -38,7 +38,7 @@ use Rattle.ds_image_laws.specs.Shown.{AreInPlace, HoldsImage, SameMetadata}
 -- the second stands for the same trees as the first, spells the same parts, and has the same guards
 pub record IsLike (g : Geom) (image other : List Sector) : Type 0 where
   pub stands : (t : FileTree) → StandsFor g image t → StandsFor g other t
-  pub reads : (p : Parts) → Reads g (slice_get image) p → Reads g (slice_get other) p
+  pub reads : (p : Parts) → ReadsParts g (slice_get image) p → ReadsParts g (slice_get other) p
   pub guards : (at object : ℕ) → IsGuard g (slice_get image) at object → IsGuard g (slice_get other) at object
 
 -- lists with the same metadata are alike; the second has a sector for each number in front of the file blocks
@@ -140,5 +140,5 @@ pub record PlansRightly (g : Geom) (sectors image : List Sector) (t : FileTree) 
 
 abbrev pub PlannersAreRight : Type 0
 PlannersAreRight = (g : Geom) (sectors image : List Sector) (t : FileTree) (number : ℕ) (seen : SeenValue) (call : CallOf Key) (answers : Answers) (p : Parts)
-    → HasImage g sectors image t → CallKnows g sectors image number seen → AllKeep g call answers → Reads g (look_of seen) p
+    → HasImage g sectors image t → CallKnows g sectors image number seen → AllKeep g call answers → ReadsParts g (look_of seen) p
     → PlansRightly g sectors image t number call (answers seen p)

@@ -4,8 +4,6 @@
 mod metadata;
 mod places;
 mod regions;
-#[cfg(test)]
-mod tests;
 mod volume;
 
 pub use metadata::is_metadata_sector;

@@ -5,8 +5,6 @@ mod header;
 mod header_parts;
 mod slot;
 mod slot_parts;
-#[cfg(test)]
-mod tests;
 
 pub use header::{Header, Owner};
 pub use slot::{Journal, Slot, SlotState};

@@ -48,7 +48,7 @@ impl Names {
 impl Plan for Names {
     ghost use Rattle.std.specs.Prelude.{◌≡◌};
     ghost use Rattle.ds_image.specs.Parts.{Parts};
-    ghost use Rattle.ds_image.specs.Readings.{Reads};
+    ghost use Rattle.ds_image.specs.Readings.{ReadsParts};
     ghost use Rattle.ds_image.specs.SeenValues.{look_of};
     ghost use Rattle.ds_names.specs.Calls.{answers_of, call_of, geom_of, slot_of};
     ghost use Rattle.ds_names.specs.Laws.{names_allowed, names_few, names_keep};
@@ -62,7 +62,7 @@ impl Plan for Names {
     ghost answers = { answers_of };
 
     fn ask(&self, seen: &Seen) -> Ask
-        ensures { (p : Parts) → Reads (geom_of self.now) (look_of seen.now) p → result ≡ answers_of self.now seen.now p }
+        ensures { (p : Parts) → ReadsParts (geom_of self.now) (look_of seen.now) p → result ≡ answers_of self.now seen.now p }
     {
         match self {
             Names::Reads(plan) => plan.ask(seen),

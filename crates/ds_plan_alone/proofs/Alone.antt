@@ -12,18 +12,21 @@ use Rattle.ds_image.specs.ImageValues.{IsImage}
 use Rattle.ds_layout.specs.Metadata.{IsMetadata}
 use Rattle.ds_image.specs.Parts.{Parts, part_at}
 use Rattle.ds_image.specs.Planning.{Answers, Asks, AllKeep, AllAreFew}
-use Rattle.ds_image.specs.Readings.{Reads}
+use Rattle.ds_image.specs.Reaching.{AllGuarded}
+use Rattle.ds_image.specs.Readings.{ReadsParts}
 use Rattle.ds_image.specs.SeenValues.{SeenValue, IsSeen, has_lock, look_of, sector_in, with_lock, with_sector}
 use Rattle.ds_image.specs.Sound.{StandsFor}
 use Rattle.ds_image.specs.declared.asks.Ask.{Ask}
 use Rattle.ds_image.specs.declared.asks.Ask.TheVariants.{Lock, Read, Odd, Worn, Done, Change}
-use Rattle.ds_image.proofs.Sizes.{part_within}
+use Rattle.ds_image.proofs.Spelling.Sizes.{part_within}
+use Rattle.ds_image.proofs.Reaching.{all-few, all-fresh, all-guarded}
+use Rattle.ds_image.specs.Objects.{node_by}
 use Rattle.ds_image.proofs.Seeing.{sector_in-append, seen_read}
 use Rattle.ds_tree.specs.CallNames.{HasNames}
 use Rattle.ds_plan_base.proofs.Dirs.{body_in, object_in}
 use Rattle.ds_tree.specs.Nodes.{FileTree, Object, birth_at}
 use Rattle.ds_tree.specs.declared.calls.CallOf.{CallOf}
-use Rattle.ds_plan_alone.specs.Courses.{HasAsked, Begun, WithLock, WithSector, EndsRight, IsCourse, IsEnd}
+use Rattle.ds_plan_alone.specs.Courses.{IsUsedUp, HasAsked, Begun, WithLock, WithSector, EndsRight, IsCourse, IsEnd}
 use Rattle.ds_plan_alone.specs.declared.courses.Asked.{Asked}
 use Rattle.ds_plan_alone.specs.declared.courses.Asked.TheVariants as asked_for
 
@@ -79,8 +82,11 @@ module _ (g : Geom) (call : CallOf Key) (answers : Answers) (image : List Sector
     reached _ _ (WithLock seen asked object before asks) = Locked seen object (reached seen asked before) asks
     reached _ _ (WithSector seen asked at s before asks there) = Given seen at s (reached seen asked before) asks (is.is_image.blocks at s there)
 
+    pub guarded : (seen : SeenValue) (asked : List Asked) → HasAsked g answers image seen asked → AllGuarded g seen
+    guarded seen asked has = all-guarded g call answers is.keeps seen (reached seen asked has)
+
     few_of : (seen : SeenValue) (asked : List Asked) (ask : Ask) → HasAsked g answers image seen asked → Asks g answers seen ask → IsFew seen ask
-    few_of seen asked ask has asks = subst (IsFew seen) (sym asks.answered) (is.few seen asks.parts asks.reads (reached seen asked has))
+    few_of seen asked ask has asks = all-few g answers is.few seen ask (reached seen asked has) asks
 
     -- the lists of what is held and of what was read are short
     record IsShort (seen : SeenValue) : Type 0 where
@@ -103,7 +109,7 @@ module _ (g : Geom) (call : CallOf Key) (answers : Answers) (image : List Sector
 
     -- what is seen spells parts, so what a planner answers by them is asked for
     pub asks_of : (seen : SeenValue) (asked : List Asked) (ask : Ask) → HasAsked g answers image seen asked
-        → ((p : Parts) → Reads g (look_of seen) p → ask ≡ answers seen p) → Asks g answers seen ask
+        → ((p : Parts) → ReadsParts g (look_of seen) p → ask ≡ answers seen p) → Asks g answers seen ask
     asks_of seen asked ask has answered =
         let few = short seen asked has in
         let is_seen : IsSeen seen = record {
@@ -123,13 +129,12 @@ module _ (g : Geom) (call : CallOf Key) (answers : Answers) (image : List Sector
       pub less : 280 - length (asked ++ asked_for.Lock object ∷ []) < 280 - length asked
 
     pub lock_step : (seen : SeenValue) (asked : List Asked) (object : ℕ) → HasAsked g answers image seen asked
-        → ((p : Parts) → Reads g (look_of seen) p → Lock object ≡ answers seen p) → LockStep seen asked object
+        → ((p : Parts) → ReadsParts g (look_of seen) p → Lock object ≡ answers seen p) → LockStep seen asked object
     lock_step seen asked object has answered =
         let asks = asks_of seen asked (Lock object) has answered in
-        let keeps = kept is seen (Lock object) asks in
         let few = few_of seen asked (Lock object) has asks in
         record {
-          fresh = keeps.form.1;
+          fresh = all-fresh g call answers is.keeps seen (Lock object) asks;
           room = omega (arith, few.0);
           next = WithLock seen asked object has asks;
           more = omega (arith, counted seen asked has, few.0, few.1);
@@ -146,14 +151,14 @@ module _ (g : Geom) (call : CallOf Key) (answers : Answers) (image : List Sector
       pub less : 280 - length (asked ++ asked_for.Read at ∷ []) < 280 - length asked
 
     pub read_step : (seen : SeenValue) (asked : List Asked) (at : ℕ) → HasAsked g answers image seen asked
-        → ((p : Parts) → Reads g (look_of seen) p → Read at ≡ answers seen p) → ReadStep seen asked at
+        → ((p : Parts) → ReadsParts g (look_of seen) p → Read at ≡ answers seen p) → ReadStep seen asked at
     read_step seen asked at has answered =
         let asks = asks_of seen asked (Read at) has answered in
         let keeps = kept is seen (Read at) asks in
         let few = few_of seen asked (Read at) has asks in
         record {
           metadata = keeps.form.metadata;
-          fresh = keeps.form.unread;
+          fresh = all-fresh g call answers is.keeps seen (Read at) asks;
           room = few.1;
           next = λ s there. WithSector seen asked at s has asks there;
           more = omega (arith, counted seen asked has, few.0, few.1);
@@ -161,23 +166,34 @@ module _ (g : Geom) (call : CallOf Key) (answers : Answers) (image : List Sector
         }
 
   -- a body that was seen is that of the image, and so of the tree
-  last-birth : (seen : SeenValue) (p : Parts) (object : ℕ) (t : FileTree) → Reads g (look_of seen) p → Agrees seen image → IsWorn g call seen p object
-      → StandsFor g image t → birth_at t object ≡ 2 ^ 62
-  last-birth seen p object t reads agrees worn stands =
+  used-up : (seen : SeenValue) (p : Parts) (object : ℕ) (t : FileTree) → ReadsParts g (look_of seen) p → Agrees seen image → IsWorn g call seen p object
+      → StandsFor g image t → IsUsedUp t object
+  used-up seen p object t reads agrees worn stands =
       let inside : object < items_of g Fd = omega (arith, part_within p.bodies object worn.body worn.there, reads.bodies.len) in
       let spelled = (reads.bodies.each object inside worn.body).0 worn.there in
       let body : part_at stands.parts.bodies object ≡ Some worn.body =
       body_in g seen p object image t stands inside reads agrees (ap is_some spelled.2.1) ∙ worn.there in
-      ap (λ (o : Object). o.birth) (object_in g image t object (Some worn.body) stands body) ∙ worn.last
+      let is = object_in g image t object (Some worn.body) stands body in
+      record {
+        free = ap (λ (o : Object). o.node) is ∙ ap (node_by stands.parts worn.body) worn.unused;
+        last = ap (λ (o : Object). o.birth) is ∙ worn.last;
+      }
 
-  module _ (seen : SeenValue) (p : Parts) (t : FileTree) (reads : Reads g (look_of seen) p) (agrees : Agrees seen image) (stands : StandsFor g image t) where
+  module _ (seen : SeenValue) (p : Parts) (t : FileTree) (reads : ReadsParts g (look_of seen) p) (agrees : Agrees seen image) (stands : StandsFor g image t) where
     ends : (ask : Ask) → HasForm g call seen p ask → IsRight g call seen image t ask → IsEnd ask → EndsRight g call image t ask
     ends (Lock object) form right ended = absurd ended
     ends (Read at) form right ended = absurd ended
     ends (Odd at) form right ended = right
-    ends (Worn object) form right ended = (form.0, last-birth seen p object t reads agrees form.1 stands)
+    ends (Worn object) form right ended = (form.makes, used-up seen p object t reads agrees form stands)
     ends (Done reply) form right ended = right
-    ends (Change redo reply) form right ended = (right.u, right.stands, right.does)
+    ends (Change redo reply) form right ended = record {
+      u = right.u;
+      stands = right.stands;
+      does = right.does;
+      unrefused = right.unrefused;
+      changes = right.changes;
+      next_life = right.next_life;
+    }
 
   pub ends_right : IsPlanned → (asked : List Asked) (ask : Ask) → IsCourse g answers image asked ask → (t : FileTree) → StandsFor g image t
       → EndsRight g call image t ask

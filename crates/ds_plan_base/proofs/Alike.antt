@@ -13,8 +13,8 @@ use Rattle.ds_fd.specs.Body.{IsBody, body_bytes}
 use Rattle.ds_fd.specs.declared.body.Body.{Body}
 use Rattle.ds_image.specs.Looks.{Look}
 use Rattle.ds_image.specs.Parts.{Parts, part_at}
-use Rattle.ds_image.specs.Readings.{Reads, SpellsBody, SpellsSub, SpellsPtr}
-use Rattle.ds_image.proofs.Decoded.{decoded_same, numbered_at, spelled_at}
+use Rattle.ds_image.specs.Readings.{ReadsParts, SpellsBody, SpellsSub, SpellsPtr}
+use Rattle.ds_image.proofs.Spelling.Decoded.{decoded_same, numbered_at, spelled_at}
 use Rattle.ds_layout.specs.Places.{place_sector}
 use Rattle.ds_layout.specs.declared.places.Place.TheVariants as places
 use Rattle.ds_plan_base.specs.Bodies.{part_seen}
@@ -33,7 +33,7 @@ none-there (Some x) none = absurd (false≢true (sym none))
 -- what is decoded of a sector that is there is the part of its number
 pub body_decoded : (g : Geom) (look : Look) (p : Parts) (object at : ℕ) (s : Sector) (r : Option Body) → object < items_of g Fd
     → at ≡ place_sector g (places.Body object) → look at ≡ Some s
-    → IsDecoded r (λ b. (b.object ≡ object) × IsBody b × (s.bytes ≡ body_bytes b)) → Reads g look p → r ≡ part_at p.bodies object
+    → IsDecoded r (λ b. (b.object ≡ object) × IsBody b × (s.bytes ≡ body_bytes b)) → ReadsParts g look p → r ≡ part_at p.bodies object
 body_decoded g look p object at s r l here there read reads =
     decoded_same r (part_at p.bodies object) (SpellsBody g look object)
     (numbered_at look (place_sector g (places.Body object)) s (λ b. b.object ≡ object) IsBody body_bytes r (ap look (sym here) ∙ there) read)
@@ -41,7 +41,7 @@ body_decoded g look p object at s r l here there read reads =
 
 pub sub_decoded : (g : Geom) (look : Look) (p : Parts) (n at : ℕ) (s : Sector) (r : Option SubBlock) → n < items_of g Sb
     → at ≡ place_sector g (places.SubBlock n) → look at ≡ Some s
-    → IsDecoded r (λ b. IsSubBlock b × (s.bytes ≡ sub_bytes b)) → Reads g look p → r ≡ part_at p.subs n
+    → IsDecoded r (λ b. IsSubBlock b × (s.bytes ≡ sub_bytes b)) → ReadsParts g look p → r ≡ part_at p.subs n
 sub_decoded g look p n at s r l here there read reads =
     decoded_same r (part_at p.subs n) (SpellsSub g look n)
     (spelled_at look (place_sector g (places.SubBlock n)) s IsSubBlock sub_bytes r (ap look (sym here) ∙ there) read)
@@ -55,7 +55,7 @@ part_seen-as look at here s r part same there is =
 
 -- two looks that have the same sector there, or none, have the same part
 pub body_alike : (g : Geom) (look other : Look) (p q : Parts) (object : ℕ) → object < items_of g Fd
-    → look (place_sector g (places.Body object)) ≡ other (place_sector g (places.Body object)) → Reads g look p → Reads g other q
+    → look (place_sector g (places.Body object)) ≡ other (place_sector g (places.Body object)) → ReadsParts g look p → ReadsParts g other q
     → part_at p.bodies object ≡ part_at q.bodies object
 body_alike g look other p q object l same reads others =
     let Spells : Option Sector → Body → Type 0 = λ x b. (b.object ≡ object) × IsBody b × ((s : Sector) × (x ≡ Some s) × (s.bytes ≡ body_bytes b)) in
@@ -63,7 +63,7 @@ body_alike g look other p q object l same reads others =
     (subst (λ (x : Option Sector). IsDecoded (part_at q.bodies object) (Spells x)) (sym same) (others.bodies.each object l))
 
 pub sub_alike : (g : Geom) (look other : Look) (p q : Parts) (n : ℕ) → n < items_of g Sb
-    → look (place_sector g (places.SubBlock n)) ≡ other (place_sector g (places.SubBlock n)) → Reads g look p → Reads g other q
+    → look (place_sector g (places.SubBlock n)) ≡ other (place_sector g (places.SubBlock n)) → ReadsParts g look p → ReadsParts g other q
     → part_at p.subs n ≡ part_at q.subs n
 sub_alike g look other p q n l same reads others =
     let Spells : Option Sector → SubBlock → Type 0 = λ x b. IsSubBlock b × ((s : Sector) × (x ≡ Some s) × (s.bytes ≡ sub_bytes b)) in
@@ -71,7 +71,7 @@ sub_alike g look other p q n l same reads others =
     (subst (λ (x : Option Sector). IsDecoded (part_at q.subs n) (Spells x)) (sym same) (others.subs.each n l))
 
 pub ptr_alike : (g : Geom) (look other : Look) (p q : Parts) (n : ℕ) → n < items_of g Pb
-    → look (place_sector g (places.PtrBlock n)) ≡ other (place_sector g (places.PtrBlock n)) → Reads g look p → Reads g other q
+    → look (place_sector g (places.PtrBlock n)) ≡ other (place_sector g (places.PtrBlock n)) → ReadsParts g look p → ReadsParts g other q
     → part_at p.ptrs n ≡ part_at q.ptrs n
 ptr_alike g look other p q n l same reads others =
     let Spells : Option Sector → PtrBlock → Type 0 = λ x b. IsPtrBlock b × ((s : Sector) × (x ≡ Some s) × (s.bytes ≡ ptr_bytes b)) in
@@ -80,7 +80,7 @@ ptr_alike g look other p q n l same reads others =
 
 -- where there is no sector there is no part
 pub body_unread : (g : Geom) (look : Look) (p : Parts) (object : ℕ) (r : Option Body) → object < items_of g Fd
-    → look (place_sector g (places.Body object)) ≡ None → Reads g look p → part_at p.bodies object ≡ r → r ≡ None
+    → look (place_sector g (places.Body object)) ≡ None → ReadsParts g look p → part_at p.bodies object ≡ r → r ≡ None
 body_unread g look p object None l none reads is = refl
 body_unread g look p object (Some b) l none reads is =
     let spelled : SpellsBody g look object b = (reads.bodies.each object l b).0 is in

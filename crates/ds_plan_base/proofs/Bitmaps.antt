@@ -12,8 +12,8 @@ use Rattle.ds_base.specs.declared.sectors.Sector.{Sector}
 use Rattle.ds_bitmap.specs.Bits.{Bitmap, IsBits, bits_bytes, AllUsed, IsFirstFree}
 use Rattle.ds_image.specs.Looks.{Look}
 use Rattle.ds_image.specs.Parts.{Parts, part_at, maps_of}
-use Rattle.ds_image.specs.Readings.{Reads, SpellsBits}
-use Rattle.ds_image.proofs.Decoded.{decoded_same, spelled_at}
+use Rattle.ds_image.specs.Readings.{ReadsParts, SpellsBits}
+use Rattle.ds_image.proofs.Spelling.Decoded.{decoded_same, spelled_at}
 use Rattle.ds_layout.specs.Places.{place_sector}
 use Rattle.ds_layout.specs.declared.places.Place.TheVariants as places
 use Rattle.ds_image.specs.SeenValues.{SeenValue}
@@ -26,7 +26,7 @@ use Rattle.ds_plan_base.specs.declared.stops.Stop.{Stop}
 -- what is decoded of a sector that is there is the part of its number
 pub map_decoded : (g : Geom) (look : Look) (p : Parts) (kind : Kind) (cluster at : ℕ) (s : Sector) (r : Option Bitmap) → cluster < clusters_of g kind
     → at ≡ place_sector g (places.Bitmap kind cluster) → look at ≡ Some s
-    → IsDecoded r (λ b. IsBits g kind cluster b × (s.bytes ≡ bits_bytes b)) → Reads g look p → r ≡ part_at (maps_of p kind) cluster
+    → IsDecoded r (λ b. IsBits g kind cluster b × (s.bytes ≡ bits_bytes b)) → ReadsParts g look p → r ≡ part_at (maps_of p kind) cluster
 map_decoded g look p kind cluster at s r l here there read reads =
     decoded_same r (part_at (maps_of p kind) cluster) (SpellsBits g look kind cluster)
     (spelled_at look (place_sector g (places.Bitmap kind cluster)) s (IsBits g kind cluster) bits_bytes r (ap look (sym here) ∙ there) read)

@@ -9,7 +9,7 @@ use Rattle.ds_base.specs.declared.names.Key.{Key}
 use Rattle.ds_base.specs.declared.sectors.Sector.{Sector}
 use Rattle.ds_fd.specs.declared.body.Body.{Body}
 use Rattle.ds_image.specs.Parts.{Parts, part_at}
-use Rattle.ds_image.specs.Readings.{Reads}
+use Rattle.ds_image.specs.Readings.{ReadsParts}
 use Rattle.ds_image.specs.SeenValues.{SeenValue, has_lock, look_of}
 use Rattle.ds_image.specs.declared.asks.Ask.{Ask}
 use Rattle.ds_image.specs.declared.asks.Ask.TheVariants as asks
@@ -27,7 +27,7 @@ pub record HasBody (g : Geom) (seen : SeenValue) (p : Parts) (o : ℕ) (b : Body
   pub read : IsSome (look_of seen (place_sector g (places.Body o)))
   pub there : part_at p.bodies o ≡ Some b
 
-module _ (g : Geom) (slot : ℕ) (call : CallOf Key) (MayHold MayRead : SeenValue → Parts → ℕ → Type 0) (seen : SeenValue) (p : Parts) (reads : Reads g (look_of seen) p)
+module _ (g : Geom) (slot : ℕ) (call : CallOf Key) (MayHold MayRead : SeenValue → Parts → ℕ → Type 0) (seen : SeenValue) (p : Parts) (reads : ReadsParts g (look_of seen) p)
     (o : ℕ) (inside : o < items_of g Fd) (held : has_lock seen o ≡ true) (may_read : MayRead seen p (place_sector g (places.Body o))) where
   abbrev Good : Ask → Type 0
   Good = PlanAsks g slot call MayHold MayRead seen p

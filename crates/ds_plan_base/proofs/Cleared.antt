@@ -13,11 +13,11 @@ use Rattle.ds_bitmap.specs.Bits.{Bitmap, bits_bytes}
 use Rattle.ds_plan_laws_gone.specs.MapWrites.{MapWrite, map_pairs, ChangesMap, AreWrittenOnce, IsClearedOf, ClearsMaps}
 use Rattle.ds_image.specs.Asking.{Agrees}
 use Rattle.ds_image.specs.Parts.{Parts, part_at, maps_of, bits_in}
-use Rattle.ds_image.specs.Readings.{Reads}
+use Rattle.ds_image.specs.Readings.{ReadsParts}
 use Rattle.ds_image.specs.SeenValues.{SeenValue, look_of}
 use Rattle.ds_image.specs.Sound.{StandsFor}
-use Rattle.ds_image.proofs.Listed.{bits_length}
-use Rattle.ds_image.proofs.Places.{at-append, at-append_left, at-append_right, at-from_Contains, marked-within}
+use Rattle.ds_image.proofs.Ownership.Listed.{bits_length}
+use Rattle.ds_image.proofs.Spelling.Places.{at-append, at-append_left, at-append_right, at-from_Contains, marked-within}
 use Rattle.ds_plan_base.specs.Giving.{Maps, map_sector, map_sectors}
 use Rattle.ds_plan_base.proofs.GivingWalk.{AreMarked, map-known, map-in}
 use Rattle.ds_plan_base.proofs.MapsLeft.{IsWithout, without-is, AreLeft}
@@ -39,7 +39,7 @@ clears-nothing g q kind = record {
 }
 
 -- so the bitmaps that are left clear the items in each image that agrees
-pub left-clears : (g : Geom) → IsGeom g → (seen : SeenValue) (p : Parts) → Reads g (look_of seen) p → (kind : Kind) (items : List ℕ) (maps : Maps) → AreLeft g seen p kind items 0 maps
+pub left-clears : (g : Geom) → IsGeom g → (seen : SeenValue) (p : Parts) → ReadsParts g (look_of seen) p → (kind : Kind) (items : List ℕ) (maps : Maps) → AreLeft g seen p kind items 0 maps
     → (image : List Sector) (t : FileTree) (stands : StandsFor g image t) → Agrees seen image → AreMarked stands.parts kind items → ClearsKind g stands.parts kind items maps
 left-clears g is_geom seen p reads kind items maps are image t stands agrees marked = record {
   before = λ i m at.

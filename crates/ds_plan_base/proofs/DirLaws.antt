@@ -20,7 +20,7 @@ use Rattle.ds_image.specs.Objects.{subs_of}
 use Rattle.ds_image.specs.Parts.{Parts, part_at}
 use Rattle.ds_image.specs.Pending.{Pair}
 use Rattle.ds_image.specs.Planning.{Answers, Asks, AllAreFew}
-use Rattle.ds_image.specs.Readings.{Reads}
+use Rattle.ds_image.specs.Readings.{ReadsParts}
 use Rattle.ds_image.specs.SeenValues.{SeenValue, has_lock, look_of, with_lock, with_sector}
 use Rattle.ds_image.specs.Sound.{StandsFor}
 use Rattle.ds_image.specs.declared.asks.Ask.{Ask}
@@ -82,7 +82,7 @@ look_other seen at s k other =
 
 -- a sector of the directory stays one when one more is read
 stays : (g : Geom) (dir : ℕ) (seen : SeenValue) (at : ℕ) (s : Sector) (p q : Parts) (k : ℕ) → dir < items_of g Fd → look_of seen at ≡ None
-    → Reads g (look_of seen) q → Reads g (look_of (with_sector seen at s)) p → list_any (nat_eq k) (dir_sectors g q dir) ≡ true
+    → ReadsParts g (look_of seen) q → ReadsParts g (look_of (with_sector seen at s)) p → list_any (nat_eq k) (dir_sectors g q dir) ≡ true
     → list_any (nat_eq k) (dir_sectors g p dir) ≡ true
 stays g dir seen at s p q k inside none reads after any = elim (cases_Bool (nat_eq at (place_sector g (places.Body dir)))) [
   | inl body ↦
@@ -105,7 +105,7 @@ record IsSmall (g : Geom) (dir : ℕ) (seen : SeenValue) : Type 0 where
   at_first : has_lock seen dir ≡ false → length seen.locks ≤ 1
   locks : length seen.locks ≤ 2
   once : IsDistinct nat_eq (numbers_read seen.sectors)
-  of_dir : (p : Parts) → Reads g (look_of seen) p → (k : ℕ) → list_any (nat_eq k) (numbers_read seen.sectors) ≡ true
+  of_dir : (p : Parts) → ReadsParts g (look_of seen) p → (k : ℕ) → list_any (nat_eq k) (numbers_read seen.sectors) ≡ true
       → list_any (nat_eq k) (dir_sectors g p dir) ≡ true
 
 last-any : (x : ℕ) (xs : List ℕ) → list_any (λ y. y == x) (xs ++ x ∷ []) ≡ true
@@ -120,7 +120,7 @@ more : (xs : List ℕ) (x : ℕ) → length (xs ++ x ∷ []) ≡ suc (length xs)
 more xs x = length-append xs (x ∷ []) ∙ omega arith
 
 module _ (g : Geom) (call : CallOf Key) (dir : ℕ) (answers : Answers)
-    (each : (seen : SeenValue) (p : Parts) → Reads g (look_of seen) p → DirAsks g call dir seen p (answers seen p)) where
+    (each : (seen : SeenValue) (p : Parts) → ReadsParts g (look_of seen) p → DirAsks g call dir seen p (answers seen p)) where
   asked_so : (seen : SeenValue) (ask : Ask) (asked : Asks g answers seen ask) → DirAsks g call dir seen asked.parts ask
   asked_so seen ask asked = subst (DirAsks g call dir seen asked.parts) (sym asked.answered) (each seen asked.parts asked.reads)
 
@@ -159,7 +159,7 @@ module _ (g : Geom) (call : CallOf Key) (dir : ℕ) (answers : Answers)
             ]);
       }
 
-  few_sectors : (seen : SeenValue) (p : Parts) → Reads g (look_of seen) p → IsSmall g dir seen → length seen.sectors ≤ 97
+  few_sectors : (seen : SeenValue) (p : Parts) → ReadsParts g (look_of seen) p → IsSmall g dir seen → length seen.sectors ≤ 97
   few_sectors seen p reads is =
       let within = length-le_from_is_member nat_eq_equiv (numbers_read seen.sectors) (dir_sectors g p dir) is.once (is.of_dir p reads) in
       let subs = subs_of (part_at p.bodies dir) in

@@ -16,12 +16,12 @@ use Rattle.ds_fd.specs.declared.body.Body.{Body}
 use Rattle.ds_image.specs.Asking.{Agrees}
 use Rattle.ds_image.specs.Objects.{subs_by, blocks_by, entries_of, node_by, object_of}
 use Rattle.ds_image.specs.Parts.{Parts, part_at}
-use Rattle.ds_image.specs.Readings.{Reads}
+use Rattle.ds_image.specs.Readings.{ReadsParts}
 use Rattle.ds_image.specs.SeenValues.{SeenValue, has_lock, look_of}
 use Rattle.ds_image.specs.Sound.{StandsFor}
 use Rattle.ds_image.specs.declared.asks.Ask.{Ask}
 use Rattle.ds_image.specs.declared.asks.Ask.TheVariants as asks
-use Rattle.ds_image.proofs.TreeParts.{object-is}
+use Rattle.ds_image.proofs.FileTrees.TreeParts.{object-is}
 use Rattle.ds_layout.specs.Places.{place_sector}
 use Rattle.ds_layout.specs.declared.places.Place.TheVariants as places
 use Rattle.ds_plan_base.specs.Bodies.{body_seen, body_alive, body_of_key, dir_by, body_of_dir, dir_of_key}
@@ -63,7 +63,7 @@ object_in g image t object r stands is =
 
 -- the body that was read is that of the image
 pub body_in : (g : Geom) (seen : SeenValue) (p : Parts) (object : ℕ) (image : List Sector) (t : FileTree) (stands : StandsFor g image t)
-    → object < items_of g Fd → Reads g (look_of seen) p → Agrees seen image
+    → object < items_of g Fd → ReadsParts g (look_of seen) p → Agrees seen image
     → IsSome (look_of seen (place_sector g (places.Body object))) → part_at stands.parts.bodies object ≡ part_at p.bodies object
 body_in g seen p object image t stands inside reads agrees read =
     let at = place_sector g (places.Body object) in
@@ -76,7 +76,7 @@ body_in g seen p object image t stands inside reads agrees read =
 
 -- a directory that was seen is the directory of the tree that its key names
 pub dir_in : (g : Geom) (seen : SeenValue) (p : Parts) (dir : Key) (b : Body) (image : List Sector) (t : FileTree) (stands : StandsFor g image t)
-    → Reads g (look_of seen) p → Agrees seen image → HasDir g seen p dir b
+    → ReadsParts g (look_of seen) p → Agrees seen image → HasDir g seen p dir b
     → (part_at stands.parts.bodies dir.object ≡ Some b) × (object_at t dir.object ≡ record { birth = dir.birth; node = Some (Dir (entries_of stands.parts (subs_by b (Some kinds.Dir))) (4 * b.count)) })
 dir_in g seen p dir b image t stands reads agrees is =
     let q = stands.parts in
@@ -87,7 +87,7 @@ dir_in g seen p dir b image t stands reads agrees is =
           ∙ ap (λ (kind : Option NodeKind). record { birth = dir.birth; node = node_by q b kind }) is.sees.is_kind,
     )
 
-module _ (g : Geom) (call : CallOf Key) (dir : Key) (seen : SeenValue) (p : Parts) (reads : Reads g (look_of seen) p)
+module _ (g : Geom) (call : CallOf Key) (dir : Key) (seen : SeenValue) (p : Parts) (reads : ReadsParts g (look_of seen) p)
     (missing : (image : List Sector) (t : FileTree) → StandsFor g image t → Agrees seen image → node_of_key t dir ≡ None → Does g t call replies.NoObject t)
     (no_dir : (image : List Sector) (t : FileTree) (blocks : List ℕ) → StandsFor g image t → Agrees seen image → node_of_key t dir ≡ Some (File blocks) → Does g t call replies.NotDir t) where
   abbrev Good : Ask → Type 0
@@ -197,7 +197,7 @@ module _ (g : Geom) (call : CallOf Key) (dir : Key) (seen : SeenValue) (p : Part
   dir_goes_in = goes-after Good IsAlive (HasDir g seen p dir) (body_of_key g seen p dir) body_of_dir body_goes (λ b is. dir_by-goes b b.kind refl is)
 
 -- where a call is refused for its directory in every tree, and not only in those whose image agrees
-pub dir_goes : (g : Geom) (call : CallOf Key) (dir : Key) (seen : SeenValue) (p : Parts) → Reads g (look_of seen) p
+pub dir_goes : (g : Geom) (call : CallOf Key) (dir : Key) (seen : SeenValue) (p : Parts) → ReadsParts g (look_of seen) p
     → ((t : FileTree) → node_of_key t dir ≡ None → Does g t call replies.NoObject t)
     → ((t : FileTree) (blocks : List ℕ) → node_of_key t dir ≡ Some (File blocks) → Does g t call replies.NotDir t)
     → Goes (DirAsks g call dir.object seen p) (dir_of_key g seen p dir) (HasDir g seen p dir)

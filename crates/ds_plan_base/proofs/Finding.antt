@@ -26,15 +26,15 @@ use Rattle.ds_image.specs.Guards.{lister_or}
 use Rattle.ds_image.specs.Objects.{subs_by, subs_of, rooms_in, rooms_of, used_rooms}
 use Rattle.ds_image.specs.Owns.{IsAt}
 use Rattle.ds_image.specs.Parts.{Parts, part_at}
-use Rattle.ds_image.specs.Readings.{Reads}
+use Rattle.ds_image.specs.Readings.{ReadsParts}
 use Rattle.ds_image.specs.SeenValues.{SeenValue, look_of}
 use Rattle.ds_image.specs.Sound.{StandsFor, sub_lists}
 use Rattle.ds_image.specs.declared.asks.Ask.{Ask}
 use Rattle.ds_image.specs.declared.asks.Ask.TheVariants as asks
-use Rattle.ds_image.proofs.EntryNames.{pairs}
+use Rattle.ds_image.proofs.FileTrees.EntryNames.{pairs}
 use Rattle.ds_image.proofs.Guarding.{lister_found}
-use Rattle.ds_image.proofs.Listed.{sub_listed_within}
-use Rattle.ds_image.proofs.SoundParts.{list-is}
+use Rattle.ds_image.proofs.Ownership.Listed.{sub_listed_within}
+use Rattle.ds_image.proofs.Spelling.SoundParts.{list-is}
 use Rattle.ds_layout.specs.Places.{place_sector, cluster_lock}
 use Rattle.ds_layout.specs.declared.places.Place.TheVariants as places
 use Rattle.ds_plan_base.specs.Bodies.{part_seen, sub_seen}
@@ -215,7 +215,7 @@ sub-there g seen p b n block is = elim (cases_Bool (nat_lt n (items_of g Sb))) [
       absurd cc
 ]
 
-module _ (g : Geom) (call : CallOf Key) (dir : Key) (seen : SeenValue) (p : Parts) (reads : Reads g (look_of seen) p) (b : Body) (has : HasDir g seen p dir b) where
+module _ (g : Geom) (call : CallOf Key) (dir : Key) (seen : SeenValue) (p : Parts) (reads : ReadsParts g (look_of seen) p) (b : Body) (has : HasDir g seen p dir b) where
   abbrev Good : Ask → Type 0
   Good = DirAsks g call dir.object seen p
 

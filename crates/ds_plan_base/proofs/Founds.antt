@@ -7,7 +7,7 @@ use Rattle.ds_dir.specs.declared.sub_block.SubBlock.{SubBlock}
 use Rattle.ds_fd.specs.declared.body.Body.{Body}
 use Rattle.ds_image.specs.Objects.{subs_of, used_rooms}
 use Rattle.ds_image.specs.Parts.{Parts}
-use Rattle.ds_image.specs.Readings.{Reads}
+use Rattle.ds_image.specs.Readings.{ReadsParts}
 use Rattle.ds_image.specs.SeenValues.{SeenValue, look_of}
 use Rattle.ds_plan_base.specs.Bodies.{sub_seen}
 use Rattle.ds_plan_base.specs.Entries.{named_among, found_at, found_from, found_in, entry_by, wanted_entry}
@@ -49,7 +49,7 @@ pub by-known : (r : Option Found) (found : Found) → entry_by r ≡ Ok found �
 by-known None found is = absurd cc
 by-known (Some x) found is = let same : x ≡ found = cc in ap Some same
 
-module _ (g : Geom) (seen : SeenValue) (p : Parts) (reads : Reads g (look_of seen) p) (b : Body) (name : List ℕ) where
+module _ (g : Geom) (seen : SeenValue) (p : Parts) (reads : ReadsParts g (look_of seen) p) (b : Body) (name : List ℕ) where
   pub found-known : (subs : List ℕ) (found : Found) → found_from g seen p b name subs ≡ Ok (Some found) → HasFound g seen p b name subs found
   found-known [] found is = absurd cc
   found-known (n ∷ subs) found is =

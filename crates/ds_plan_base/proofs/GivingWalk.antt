@@ -15,13 +15,13 @@ use Rattle.ds_image.proofs.Bits.{bits-get}
 use Rattle.ds_image.specs.Asking.{Agrees}
 use Rattle.ds_image.specs.Owns.{bit}
 use Rattle.ds_image.specs.Parts.{Parts, part_at, maps_of, bits_in}
-use Rattle.ds_image.specs.Readings.{Reads}
+use Rattle.ds_image.specs.Readings.{ReadsParts}
 use Rattle.ds_image.specs.SeenValues.{SeenValue, has_lock, look_of}
 use Rattle.ds_image.specs.Sound.{StandsFor}
 use Rattle.ds_image.specs.declared.asks.Ask.{Ask}
 use Rattle.ds_image.specs.declared.asks.Ask.TheVariants as asks
-use Rattle.ds_image.proofs.Listed.{bits_length}
-use Rattle.ds_image.proofs.Places.{marked-within}
+use Rattle.ds_image.proofs.Ownership.Listed.{bits_length}
+use Rattle.ds_image.proofs.Spelling.Places.{marked-within}
 use Rattle.ds_layout.specs.Places.{cluster_lock, place_sector}
 use Rattle.ds_layout.specs.declared.places.Place.TheVariants as places
 use Rattle.ds_plan_base.specs.Giving.{some_outside, is_touched, map_without, or_odd, map_left, maps_from, maps_left}
@@ -45,7 +45,7 @@ pub record AreMarked (q : Parts) (kind : Kind) (items : List ℕ) : Type 0 where
   pub once : (i j n : ℕ) → slice_get items i ≡ Some n → slice_get items j ≡ Some n → i ≡ j
 
 -- a bitmap that is known was locked and read
-pub map-known : (g : Geom) (seen : SeenValue) (p : Parts) → Reads g (look_of seen) p → (kind : Kind) (c : ℕ) (map : Bitmap) → c < clusters_of g kind
+pub map-known : (g : Geom) (seen : SeenValue) (p : Parts) → ReadsParts g (look_of seen) p → (kind : Kind) (c : ℕ) (map : Bitmap) → c < clusters_of g kind
     → map_seen g seen p kind c ≡ Ok map → HasMap g seen p kind c map
 map-known g seen p reads kind c map inside is =
     let at = place_sector g (places.Bitmap kind c) in
@@ -54,7 +54,7 @@ map-known g seen p reads kind c map inside is =
     record { inside = inside; held = held.0; read = ap is_some known.1; there = known.2; is_bits = (((reads.maps kind).each c inside map).0 known.2).0 }
 
 -- and is that of each image that agrees
-pub map-in : (g : Geom) (seen : SeenValue) (p : Parts) → Reads g (look_of seen) p → (kind : Kind) (c : ℕ) (map : Bitmap) → HasMap g seen p kind c map
+pub map-in : (g : Geom) (seen : SeenValue) (p : Parts) → ReadsParts g (look_of seen) p → (kind : Kind) (c : ℕ) (map : Bitmap) → HasMap g seen p kind c map
     → (image : List Sector) (t : FileTree) (stands : StandsFor g image t) → Agrees seen image → part_at (maps_of stands.parts kind) c ≡ Some map
 map-in g seen p reads kind c map has image t stands agrees =
     let at = place_sector g (places.Bitmap kind c) in
@@ -62,7 +62,7 @@ map-in g seen p reads kind c map has image t stands agrees =
     map_alike g (slice_get image) (look_of seen) stands.parts p kind c has.inside (agrees at known.0 known.1 ∙ sym known.1) stands.reads reads ∙ has.there
 
 module _ (g : Geom) (is_geom : IsGeom g) (slot : ℕ) (call : CallOf Key) (MayHold MayRead : SeenValue → Parts → ℕ → Type 0)
-    (seen : SeenValue) (p : Parts) (reads : Reads g (look_of seen) p) (kind : Kind) (items : List ℕ) (listed : ℕ) (read_listed : IsSome (look_of seen listed))
+    (seen : SeenValue) (p : Parts) (reads : ReadsParts g (look_of seen) p) (kind : Kind) (items : List ℕ) (listed : ℕ) (read_listed : IsSome (look_of seen listed))
     (owned : (image : List Sector) (t : FileTree) (stands : StandsFor g image t) → Agrees seen image → AreMarked stands.parts kind items)
     (gives : (i n : ℕ) → slice_get items i ≡ Some n → GivesUp p call kind n)
     (may_hold : (i n : ℕ) → slice_get items i ≡ Some n → n / per_cluster g kind < clusters_of g kind → MayHold seen p (cluster_lock kind (n / per_cluster g kind)))

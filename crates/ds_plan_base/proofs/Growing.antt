@@ -15,7 +15,7 @@ use Rattle.ds_image.specs.Asking.{Reached, Start, Locked, Given, IsFew}
 use Rattle.ds_image.specs.Parts.{Parts}
 use Rattle.ds_image.specs.Pending.{Pair}
 use Rattle.ds_image.specs.Planning.{Answers, Asks, AllAreFew}
-use Rattle.ds_image.specs.Readings.{Reads}
+use Rattle.ds_image.specs.Readings.{ReadsParts}
 use Rattle.ds_image.specs.SeenValues.{SeenValue, has_lock, sector_in, look_of, with_lock, with_sector}
 use Rattle.ds_image.specs.declared.asks.Ask.{Ask}
 use Rattle.ds_image.specs.declared.asks.Ask.TheVariants as asks
@@ -86,13 +86,13 @@ nothing_twice = tt
 
 -- a planner asks for locks and sectors of which these hold, none of them twice
 pub record AsksFor (g : Geom) (answers : Answers) (MayHold MayRead : SeenValue → Parts → ℕ → Type 0) : Type 0 where
-  pub locks : (seen : SeenValue) (p : Parts) → Reads g (look_of seen) p → (object : ℕ) → asks.Lock object ≡ answers seen p
+  pub locks : (seen : SeenValue) (p : Parts) → ReadsParts g (look_of seen) p → (object : ℕ) → asks.Lock object ≡ answers seen p
       → (has_lock seen object ≡ false) × MayHold seen p object
-  pub sectors : (seen : SeenValue) (p : Parts) → Reads g (look_of seen) p → (at : ℕ) → asks.Read at ≡ answers seen p
+  pub sectors : (seen : SeenValue) (p : Parts) → ReadsParts g (look_of seen) p → (at : ℕ) → asks.Read at ≡ answers seen p
       → (look_of seen at ≡ None) × MayRead seen p at
-  pub locks_stay : (seen next : SeenValue) (p q : Parts) → Grows seen next → Reads g (look_of seen) p → Reads g (look_of next) q
+  pub locks_stay : (seen next : SeenValue) (p q : Parts) → Grows seen next → ReadsParts g (look_of seen) p → ReadsParts g (look_of next) q
       → (object : ℕ) → MayHold seen p object → MayHold next q object
-  pub sectors_stay : (seen next : SeenValue) (p q : Parts) → Grows seen next → Reads g (look_of seen) p → Reads g (look_of next) q
+  pub sectors_stay : (seen next : SeenValue) (p q : Parts) → Grows seen next → ReadsParts g (look_of seen) p → ReadsParts g (look_of next) q
       → (at : ℕ) → MayRead seen p at → MayRead next q at
 
 module _ (g : Geom) (answers : Answers) (MayHold MayRead : SeenValue → Parts → ℕ → Type 0) (asks_for : AsksFor g answers MayHold MayRead) where
@@ -103,9 +103,9 @@ module _ (g : Geom) (answers : Answers) (MayHold MayRead : SeenValue → Parts �
     split : seen.locks ≡ first ++ asked
     one : length first ≤ 1
     once : IsDistinct nat_eq asked
-    held : (p : Parts) → Reads g (look_of seen) p → (k : ℕ) → list_any (nat_eq k) asked ≡ true → MayHold seen p k
+    held : (p : Parts) → ReadsParts g (look_of seen) p → (k : ℕ) → list_any (nat_eq k) asked ≡ true → MayHold seen p k
     read_once : IsDistinct nat_eq (numbers_read seen.sectors)
-    read : (p : Parts) → Reads g (look_of seen) p → (k : ℕ) → list_any (nat_eq k) (numbers_read seen.sectors) ≡ true → MayRead seen p k
+    read : (p : Parts) → ReadsParts g (look_of seen) p → (k : ℕ) → list_any (nat_eq k) (numbers_read seen.sectors) ≡ true → MayRead seen p k
 
   small : (seen : SeenValue) → Reached (Asks g answers) seen → IsSmall seen
   small _ (Start locks few) = record {
@@ -172,10 +172,10 @@ module _ (g : Geom) (answers : Answers) (MayHold MayRead : SeenValue → Parts �
 
   -- where both lists are short, few locks and sectors are asked for
   pub few_of : (lock_list sector_list : SeenValue → Parts → List ℕ)
-      → ((seen : SeenValue) (p : Parts) → Reads g (look_of seen) p → (k : ℕ) → MayHold seen p k → list_any (nat_eq k) (lock_list seen p) ≡ true)
-      → ((seen : SeenValue) (p : Parts) → Reads g (look_of seen) p → (k : ℕ) → MayRead seen p k → list_any (nat_eq k) (sector_list seen p) ≡ true)
-      → ((seen : SeenValue) (p : Parts) → Reads g (look_of seen) p → length (lock_list seen p) ≤ 22)
-      → ((seen : SeenValue) (p : Parts) → Reads g (look_of seen) p → length (sector_list seen p) ≤ 255)
+      → ((seen : SeenValue) (p : Parts) → ReadsParts g (look_of seen) p → (k : ℕ) → MayHold seen p k → list_any (nat_eq k) (lock_list seen p) ≡ true)
+      → ((seen : SeenValue) (p : Parts) → ReadsParts g (look_of seen) p → (k : ℕ) → MayRead seen p k → list_any (nat_eq k) (sector_list seen p) ≡ true)
+      → ((seen : SeenValue) (p : Parts) → ReadsParts g (look_of seen) p → length (lock_list seen p) ≤ 22)
+      → ((seen : SeenValue) (p : Parts) → ReadsParts g (look_of seen) p → length (sector_list seen p) ≤ 255)
       → AllAreFew g answers
   few_of lock_list sector_list in_locks in_sectors few_locks few_sectors seen p reads come =
       let is = small seen come in

@@ -18,7 +18,7 @@ use Rattle.ds_image.proofs.Bits.{clear_count, clear-by_cluster}
 use Rattle.ds_plan_laws_new.proofs.FreeItems.{free-clear}
 use Rattle.ds_image.specs.Asking.{Agrees}
 use Rattle.ds_image.specs.Parts.{Parts, part_at, maps_of, used_bits}
-use Rattle.ds_image.specs.Readings.{Reads}
+use Rattle.ds_image.specs.Readings.{ReadsParts}
 use Rattle.ds_image.specs.SeenValues.{SeenValue, has_lock, look_of}
 use Rattle.ds_image.specs.Sound.{StandsFor}
 use Rattle.ds_image.specs.declared.asks.Ask.{Ask}
@@ -90,7 +90,7 @@ all-tried n slot c l =
     rest-within : (a n : ℕ) → c < n → a % n < n
     rest-within a n some = mod-lt a (omega (arith, some))
 
-module _ (g : Geom) (slot : ℕ) (call : CallOf Key) (MayHold MayRead : SeenValue → Parts → ℕ → Type 0) (seen : SeenValue) (p : Parts) (is_geom : IsGeom g) (reads : Reads g (look_of seen) p) (kind : Kind)
+module _ (g : Geom) (slot : ℕ) (call : CallOf Key) (MayHold MayRead : SeenValue → Parts → ℕ → Type 0) (seen : SeenValue) (p : Parts) (is_geom : IsGeom g) (reads : ReadsParts g (look_of seen) p) (kind : Kind)
     (may_hold : (c : ℕ) → c < clusters_of g kind → MayHold seen p (cluster_lock kind c))
     (may_read : (c : ℕ) → c < clusters_of g kind → MayRead seen p (place_sector g (places.Bitmap kind c)))
     (needs : Needs p call kind 1)

@@ -15,9 +15,9 @@ use Rattle.ds_fd.specs.Body.{IsBody, most_count}
 use Rattle.ds_fd.specs.declared.body.Body.{Body}
 use Rattle.ds_image.specs.Objects.{subs_by, subs_of}
 use Rattle.ds_image.specs.Parts.{Parts, part_at}
-use Rattle.ds_image.specs.Readings.{Reads}
+use Rattle.ds_image.specs.Readings.{ReadsParts}
 use Rattle.ds_image.specs.SeenValues.{SeenValue, has_lock, look_of}
-use Rattle.ds_image.proofs.Sizes.{body_is}
+use Rattle.ds_image.proofs.Spelling.Sizes.{body_is}
 use Rattle.ds_layout.specs.Places.{place_sector}
 use Rattle.ds_layout.specs.declared.places.Place.TheVariants as places
 use Rattle.ds_plan_base.proofs.Limits.{after-ok, part-known, if-ok}
@@ -54,7 +54,7 @@ pub record HasBlock (g : Geom) (seen : SeenValue) (p : Parts) (n : ℕ) (block :
   pub there : part_at p.subs n ≡ Some block
   pub is_sub : IsSubBlock block
 
-module _ (g : Geom) (seen : SeenValue) (p : Parts) (reads : Reads g (look_of seen) p) where
+module _ (g : Geom) (seen : SeenValue) (p : Parts) (reads : ReadsParts g (look_of seen) p) where
   pub block-known : (b : Body) (n : ℕ) (block : SubBlock) → sub_seen g seen p b n ≡ Ok block → HasBlock g seen p n block
   block-known b n block is =
       let at = place_sector g (places.SubBlock n) in
@@ -197,7 +197,7 @@ pub record HasRoom (g : Geom) (seen : SeenValue) (p : Parts) (subs : List ℕ) (
   pub has : HasBlock g seen p free.sub free.block
   pub is_free : slice_get free.block.rooms free.room ≡ Some None
 
-pub room-place : (g : Geom) (seen : SeenValue) (p : Parts) → Reads g (look_of seen) p → (b : Body) (subs : List ℕ) (free : FreeRoom) → room_from g seen p b subs ≡ Ok (Some free) → HasRoom g seen p subs free
+pub room-place : (g : Geom) (seen : SeenValue) (p : Parts) → ReadsParts g (look_of seen) p → (b : Body) (subs : List ℕ) (free : FreeRoom) → room_from g seen p b subs ≡ Ok (Some free) → HasRoom g seen p subs free
 room-place g seen p reads b [] free is = absurd cc
 room-place g seen p reads b (n ∷ subs) free is =
     let known = after-ok (sub_seen g seen p b n) _ (Some free) is in

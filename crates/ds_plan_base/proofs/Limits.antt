@@ -20,10 +20,10 @@ use Rattle.ds_fd.specs.declared.body.Body.{Body}
 use Rattle.ds_image.specs.Looks.{Look}
 use Rattle.ds_image.specs.Objects.{subs_by, subs_of}
 use Rattle.ds_image.specs.Parts.{Parts, part_at, maps_of}
-use Rattle.ds_image.specs.Readings.{Reads, SpellsBits}
+use Rattle.ds_image.specs.Readings.{ReadsParts, SpellsBits}
 use Rattle.ds_image.specs.SeenValues.{SeenValue, has_lock, look_of}
-use Rattle.ds_image.proofs.Decoded.{decoded_same}
-use Rattle.ds_image.proofs.Sizes.{body_is, part_within}
+use Rattle.ds_image.proofs.Spelling.Decoded.{decoded_same}
+use Rattle.ds_image.proofs.Spelling.Sizes.{body_is, part_within}
 use Rattle.ds_layout.specs.Places.{cluster_lock, place_sector}
 use Rattle.ds_layout.specs.declared.places.Place.TheVariants as places
 use Rattle.ds_plan_base.proofs.Bitmaps.{tried-within}
@@ -51,7 +51,7 @@ part-known at (Some s) (Some w) v is = (s, refl, (let same : w ≡ v = cc in ap 
 
 -- two looks that have the same sector there, or none, have the same bitmap
 pub map_alike : (g : Geom) (look other : Look) (p q : Parts) (kind : Kind) (cluster : ℕ) → cluster < clusters_of g kind
-    → look (place_sector g (places.Bitmap kind cluster)) ≡ other (place_sector g (places.Bitmap kind cluster)) → Reads g look p → Reads g other q
+    → look (place_sector g (places.Bitmap kind cluster)) ≡ other (place_sector g (places.Bitmap kind cluster)) → ReadsParts g look p → ReadsParts g other q
     → part_at (maps_of p kind) cluster ≡ part_at (maps_of q kind) cluster
 map_alike g look other p q kind cluster l same reads others =
     let Spells : Option Sector → Bitmap → Type 0 = λ x b. IsBits g kind cluster b × ((s : Sector) × (x ≡ Some s) × (s.bytes ≡ bits_bytes b)) in
@@ -67,7 +67,7 @@ item_or-stays : (cluster : ℕ) (map : Bitmap) (r : Option ℕ) (later other : R
 item_or-stays cluster map None later other free stays is = stays is
 item_or-stays cluster map (Some item) later other free stays is = is
 
-module _ (g : Geom) (slot : ℕ) (seen next : SeenValue) (p q : Parts) (is_geom : IsGeom g) (grows : Grows seen next) (reads : Reads g (look_of seen) p) (reads' : Reads g (look_of next) q) where
+module _ (g : Geom) (slot : ℕ) (seen next : SeenValue) (p q : Parts) (is_geom : IsGeom g) (grows : Grows seen next) (reads : ReadsParts g (look_of seen) p) (reads' : ReadsParts g (look_of next) q) where
   pub map-stays : (kind : Kind) (cluster : ℕ) (map : Bitmap) → cluster < clusters_of g kind → map_seen g seen p kind cluster ≡ Ok map → map_seen g next q kind cluster ≡ Ok map
   map-stays kind cluster map l is =
       let at = place_sector g (places.Bitmap kind cluster) in
@@ -94,7 +94,7 @@ module _ (g : Geom) (slot : ℕ) (seen next : SeenValue) (p q : Parts) (is_geom 
   pub free-stays : (kind : Kind) (free : FreeItem) → free_item g slot seen p kind ≡ Ok (Some free) → free_item g slot next q kind ≡ Ok (Some free)
   free-stays kind free is = items-stay kind free 0 (clusters_of g kind) is
 
-module _ (g : Geom) (seen next : SeenValue) (p q : Parts) (grows : Grows seen next) (reads : Reads g (look_of seen) p) (reads' : Reads g (look_of next) q) where
+module _ (g : Geom) (seen next : SeenValue) (p q : Parts) (grows : Grows seen next) (reads : ReadsParts g (look_of seen) p) (reads' : ReadsParts g (look_of next) q) where
   -- the directory's sectors stay its sectors
   dir-stays-by : (dir at : ℕ) (r : Option Body) → part_at p.bodies dir ≡ r → list_any (nat_eq at) (place_sector g (places.Body dir) ∷ map (λ n. place_sector g (places.SubBlock n)) (subs_of r)) ≡ true
       → list_any (nat_eq at) (dir_sectors g q dir) ≡ true
@@ -164,6 +164,6 @@ few_subs-by b (Some kinds.Dir) is kind = let most : b.count ≤ most_count (Some
     omega (arith, length-take b.count b.addresses, most)
 few_subs-by b (Some kinds.File) is kind = omega arith
 
-pub few_subs : (g : Geom) (look : Look) (p : Parts) (dir : ℕ) (r : Option Body) → Reads g look p → part_at p.bodies dir ≡ r → length (subs_of r) ≤ 96
+pub few_subs : (g : Geom) (look : Look) (p : Parts) (dir : ℕ) (r : Option Body) → ReadsParts g look p → part_at p.bodies dir ≡ r → length (subs_of r) ≤ 96
 few_subs g look p dir None reads is = omega arith
 few_subs g look p dir (Some b) reads is = few_subs-by b b.kind (body_is g look p dir b reads is) refl

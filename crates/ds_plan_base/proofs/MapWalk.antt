@@ -8,7 +8,7 @@ use Rattle.ds_base.specs.declared.geometry.Kind.{Kind}
 use Rattle.ds_base.specs.declared.names.Key.{Key}
 use Rattle.ds_base.specs.declared.sectors.Sector.{Sector}
 use Rattle.ds_image.specs.Parts.{Parts, part_at, maps_of}
-use Rattle.ds_image.specs.Readings.{Reads}
+use Rattle.ds_image.specs.Readings.{ReadsParts}
 use Rattle.ds_image.specs.SeenValues.{SeenValue, has_lock, look_of}
 use Rattle.ds_image.specs.declared.asks.Ask.{Ask}
 use Rattle.ds_image.specs.declared.asks.Ask.TheVariants as asks
@@ -22,7 +22,7 @@ use Rattle.ds_plan_base.proofs.Limits.{map_alike}
 use Rattle.ds_plan_base.specs.declared.stops.Stop.TheVariants as stops
 use Rattle.ds_tree.specs.declared.calls.CallOf.{CallOf}
 
-module _ (g : Geom) (slot : ℕ) (call : CallOf Key) (MayHold MayRead : SeenValue → Parts → ℕ → Type 0) (seen : SeenValue) (p : Parts) (reads : Reads g (look_of seen) p)
+module _ (g : Geom) (slot : ℕ) (call : CallOf Key) (MayHold MayRead : SeenValue → Parts → ℕ → Type 0) (seen : SeenValue) (p : Parts) (reads : ReadsParts g (look_of seen) p)
     (kind : Kind) (c : ℕ) (inside : c < clusters_of g kind) (may_read : MayRead seen p (place_sector g (places.Bitmap kind c)))
     (lock_good : has_lock seen (cluster_lock kind c) ≡ false → PlanAsks g slot call MayHold MayRead seen p (asks.Lock (cluster_lock kind c))) where
   abbrev Good : Ask → Type 0

@@ -13,7 +13,7 @@ use Rattle.ds_image.specs.Owned.{with_marks}
 use Rattle.ds_image.specs.Owns.{bit}
 use Rattle.ds_image.specs.Parts.{Parts}
 use Rattle.ds_image.specs.SeenValues.{SeenValue}
-use Rattle.ds_image.proofs.Places.{Contains-from_at, at-from_Contains}
+use Rattle.ds_image.proofs.Spelling.Places.{Contains-from_at, at-from_Contains}
 use Rattle.ds_layout.specs.Places.{place_sector}
 use Rattle.ds_layout.specs.declared.places.Place.TheVariants as places
 use Rattle.ds_plan_base.specs.Giving.{Maps, is_touched, map_given, map_without, or_odd, map_left, maps_from}

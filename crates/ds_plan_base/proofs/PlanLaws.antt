@@ -7,7 +7,7 @@ use Rattle.ds_base.specs.declared.sectors.Sector.{Sector}
 use Rattle.ds_image.specs.Asking.{Agrees, HasForm, IsRight, Keeps}
 use Rattle.ds_image.specs.Parts.{Parts}
 use Rattle.ds_image.specs.Planning.{Answers, AllAreFew}
-use Rattle.ds_image.specs.Readings.{Reads}
+use Rattle.ds_image.specs.Readings.{ReadsParts}
 use Rattle.ds_image.specs.SeenValues.{SeenValue, has_lock, look_of}
 use Rattle.ds_image.specs.Sound.{StandsFor}
 use Rattle.ds_image.specs.declared.asks.Ask.{Ask}
@@ -63,14 +63,14 @@ module _ (g : Geom) (slot : ℕ) (call : CallOf Key) (MayHold MayRead : SeenValu
       (good.readable.unread, good.one)
 
   -- where what it may come to hold and read stays so, and is in short lists, few locks and sectors are asked for
-  pub plan_few : (answers : Answers) → ((seen : SeenValue) (p : Parts) → Reads g (look_of seen) p → PlanAsks g slot call MayHold MayRead seen p (answers seen p))
-      → ((seen next : SeenValue) (p q : Parts) → Grows seen next → Reads g (look_of seen) p → Reads g (look_of next) q → (object : ℕ) → MayHold seen p object → MayHold next q object)
-      → ((seen next : SeenValue) (p q : Parts) → Grows seen next → Reads g (look_of seen) p → Reads g (look_of next) q → (at : ℕ) → MayRead seen p at → MayRead next q at)
+  pub plan_few : (answers : Answers) → ((seen : SeenValue) (p : Parts) → ReadsParts g (look_of seen) p → PlanAsks g slot call MayHold MayRead seen p (answers seen p))
+      → ((seen next : SeenValue) (p q : Parts) → Grows seen next → ReadsParts g (look_of seen) p → ReadsParts g (look_of next) q → (object : ℕ) → MayHold seen p object → MayHold next q object)
+      → ((seen next : SeenValue) (p q : Parts) → Grows seen next → ReadsParts g (look_of seen) p → ReadsParts g (look_of next) q → (at : ℕ) → MayRead seen p at → MayRead next q at)
       → (lock_list sector_list : SeenValue → Parts → List ℕ)
-      → ((seen : SeenValue) (p : Parts) → Reads g (look_of seen) p → (k : ℕ) → MayHold seen p k → list_any (nat_eq k) (lock_list seen p) ≡ true)
-      → ((seen : SeenValue) (p : Parts) → Reads g (look_of seen) p → (k : ℕ) → MayRead seen p k → list_any (nat_eq k) (sector_list seen p) ≡ true)
-      → ((seen : SeenValue) (p : Parts) → Reads g (look_of seen) p → length (lock_list seen p) ≤ 22)
-      → ((seen : SeenValue) (p : Parts) → Reads g (look_of seen) p → length (sector_list seen p) ≤ 255)
+      → ((seen : SeenValue) (p : Parts) → ReadsParts g (look_of seen) p → (k : ℕ) → MayHold seen p k → list_any (nat_eq k) (lock_list seen p) ≡ true)
+      → ((seen : SeenValue) (p : Parts) → ReadsParts g (look_of seen) p → (k : ℕ) → MayRead seen p k → list_any (nat_eq k) (sector_list seen p) ≡ true)
+      → ((seen : SeenValue) (p : Parts) → ReadsParts g (look_of seen) p → length (lock_list seen p) ≤ 22)
+      → ((seen : SeenValue) (p : Parts) → ReadsParts g (look_of seen) p → length (sector_list seen p) ≤ 255)
       → AllAreFew g answers
   plan_few answers each locks_stay sectors_stay =
       few_of g answers MayHold MayRead (record {

@@ -19,14 +19,14 @@ use Rattle.ds_fd.specs.declared.body.Body.{Body}
 use Rattle.ds_image.specs.Asking.{Agrees}
 use Rattle.ds_image.specs.Objects.{subs_by, subs_of, used_rooms, entries_of}
 use Rattle.ds_image.specs.Parts.{Parts, part_at}
-use Rattle.ds_image.specs.Readings.{Reads}
+use Rattle.ds_image.specs.Readings.{ReadsParts}
 use Rattle.ds_image.specs.SeenValues.{SeenValue, has_lock, look_of}
 use Rattle.ds_image.specs.Sound.{StandsFor}
 use Rattle.ds_image.specs.SoundObjects.{AreNamesApart}
 use Rattle.ds_image.specs.declared.asks.Ask.{Ask}
 use Rattle.ds_image.specs.declared.asks.Ask.TheVariants as asks
-use Rattle.ds_image.proofs.EntryNames.{get-entries}
-use Rattle.ds_image.proofs.SoundParts.{objects-of}
+use Rattle.ds_image.proofs.FileTrees.EntryNames.{get-entries}
+use Rattle.ds_image.proofs.Spelling.SoundParts.{objects-of}
 use Rattle.ds_layout.specs.Places.{place_sector}
 use Rattle.ds_layout.specs.declared.places.Place.TheVariants as places
 use Rattle.ds_plan_base.proofs.ItemWalk.{goes-known}
@@ -80,7 +80,7 @@ as-plan g slot call MayHold MayRead dir seen p named may_hold may_read (asks.Don
 as-plan g slot call MayHold MayRead dir seen p named may_hold may_read (asks.Change redo reply) is = absurd is
 
 -- where no name was found, all sub-blocks were seen
-module _ (g : Geom) (seen : SeenValue) (p : Parts) (reads : Reads g (look_of seen) p) (b : Body) (name : List ℕ) where
+module _ (g : Geom) (seen : SeenValue) (p : Parts) (reads : ReadsParts g (look_of seen) p) (b : Body) (name : List ℕ) where
   found-split : (n : ℕ) (subs : List ℕ) → found_from g seen p b name (n ∷ subs) ≡ Ok None
       → (block : SubBlock) × (sub_seen g seen p b n ≡ Ok block) × (named_among 0 name block.rooms ≡ None) × (found_from g seen p b name subs ≡ Ok None)
   found-split n subs is =
@@ -138,7 +138,7 @@ module _ (g : Geom) (seen : SeenValue) (p : Parts) (reads : Reads g (look_of see
 
 -- What the tree says
 
-module _ (g : Geom) (dir : Key) (seen : SeenValue) (p : Parts) (reads : Reads g (look_of seen) p) (b : Body) (has : HasDir g seen p dir b) where
+module _ (g : Geom) (dir : Key) (seen : SeenValue) (p : Parts) (reads : ReadsParts g (look_of seen) p) (b : Body) (has : HasDir g seen p dir b) where
   abbrev subs : List ℕ
   subs = subs_of (Some b)
 
@@ -185,7 +185,7 @@ module _ (g : Geom) (dir : Key) (seen : SeenValue) (p : Parts) (reads : Reads g 
 
 -- A directory that may get an entry of a name: where it has one, and where it is full, the call is refused
 
-module _ (g : Geom) (slot : ℕ) (call : CallOf Key) (MayHold MayRead : SeenValue → Parts → ℕ → Type 0) (dir : Key) (name : List ℕ) (seen : SeenValue) (p : Parts) (reads : Reads g (look_of seen) p)
+module _ (g : Geom) (slot : ℕ) (call : CallOf Key) (MayHold MayRead : SeenValue → Parts → ℕ → Type 0) (dir : Key) (name : List ℕ) (seen : SeenValue) (p : Parts) (reads : ReadsParts g (look_of seen) p)
     (b : Body) (has : HasDir g seen p dir b) (named : Contains (keys_of call) dir) (may_hold : MayHold seen p dir.object)
     (may_read : (at : ℕ) → list_any (nat_eq at) (dir_sectors g p dir.object) ≡ true → MayRead seen p at)
     (exists : (image : List Sector) (t : FileTree) → StandsFor g image t → Agrees seen image → (entries : Entries) (rooms : ℕ) → node_of_key t dir ≡ Some (Dir entries rooms)
@@ -261,7 +261,7 @@ module _ (g : Geom) (slot : ℕ) (call : CallOf Key) (MayHold MayRead : SeenValu
       subst (λ r. Goes Good r Then) (sym known.1) (is.0, is.1, known.1))
 
 -- the directory itself is known, or what is asked for is good
-pub dir_known-goes : (g : Geom) (slot : ℕ) (call : CallOf Key) (MayHold MayRead : SeenValue → Parts → ℕ → Type 0) (dir : Key) (seen : SeenValue) (p : Parts) → Reads g (look_of seen) p
+pub dir_known-goes : (g : Geom) (slot : ℕ) (call : CallOf Key) (MayHold MayRead : SeenValue → Parts → ℕ → Type 0) (dir : Key) (seen : SeenValue) (p : Parts) → ReadsParts g (look_of seen) p
     → Contains (keys_of call) dir → MayHold seen p dir.object → ((at : ℕ) → list_any (nat_eq at) (dir_sectors g p dir.object) ≡ true → MayRead seen p at)
     → ((t : FileTree) → node_of_key t dir ≡ None → Does g t call replies.NoObject t)
     → ((t : FileTree) (blocks : List ℕ) → node_of_key t dir ≡ Some (File blocks) → Does g t call replies.NotDir t)

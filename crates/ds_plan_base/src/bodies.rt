@@ -5,7 +5,7 @@ ghost use Rattle.ds_base.specs.declared.geometry.Kind.TheVariants.{Fd, Sb};
 ghost use Rattle.ds_dir.specs.SubBlock.{IsSubBlock};
 ghost use Rattle.ds_fd.specs.Body.{IsBody};
 ghost use Rattle.ds_image.specs.Parts.{Parts, part_at};
-ghost use Rattle.ds_image.specs.Readings.{Reads};
+ghost use Rattle.ds_image.specs.Readings.{ReadsParts};
 ghost use Rattle.ds_image.specs.SeenValues.{IsSeen, look_of};
 ghost use Rattle.ds_plan_base.specs.Bodies.{body_of_key, dir_of_key, body_seen, body_of_dir, sub_seen, body_alive};
 
@@ -19,7 +19,7 @@ use ds_layout::{Place, sector_of};
 /// The body of a key's object; otherwise what a planner asks for, or answers, before it knows it.
 pub fn body_of_key(geom: &Geom, seen: &Seen, key: &Key) -> Result<Body, Stop>
     requires { IsGeom geom.now }
-    ensures answer { (p : Parts) → Reads geom.now (look_of seen.now) p → result ≡ body_of_key geom.now seen.now p key.now }
+    ensures answer { (p : Parts) → ReadsParts geom.now (look_of seen.now) p → result ≡ body_of_key geom.now seen.now p key.now }
     ensures inside { IfOk result (λ body. body.object < items_of geom.now Fd) }
     ensures is_body { IfOk result IsBody }
     ensures whole { IfOk result (λ _. IsSeen seen.now) }
@@ -40,7 +40,7 @@ pub fn body_of_key(geom: &Geom, seen: &Seen, key: &Key) -> Result<Body, Stop>
 /// The body of a key's directory; otherwise what a planner asks for, or answers, before it knows it.
 pub fn dir_of_key(geom: &Geom, seen: &Seen, key: &Key) -> Result<Body, Stop>
     requires { IsGeom geom.now }
-    ensures answer { (p : Parts) → Reads geom.now (look_of seen.now) p → result ≡ dir_of_key geom.now seen.now p key.now }
+    ensures answer { (p : Parts) → ReadsParts geom.now (look_of seen.now) p → result ≡ dir_of_key geom.now seen.now p key.now }
     ensures inside { IfOk result (λ body. body.object < items_of geom.now Fd) }
     ensures is_body { IfOk result IsBody }
     ensures is_dir { IfOk result (λ body. body.kind ≡ Some NodeKind.Dir) }
@@ -74,7 +74,7 @@ fn sub_blocks(geom: &Geom) -> u32
 pub fn body_seen(geom: &Geom, seen: &Seen, object: ObjNo) -> Result<Body, Stop>
     requires geom { IsGeom geom.now }
     requires inside { object < items_of geom.now Fd }
-    ensures answer { (p : Parts) → Reads geom.now (look_of seen.now) p → result ≡ body_seen geom.now seen.now p object }
+    ensures answer { (p : Parts) → ReadsParts geom.now (look_of seen.now) p → result ≡ body_seen geom.now seen.now p object }
     ensures is_body { IfOk result IsBody }
     ensures object { IfOk result (λ body. body.object ≡ object) }
 {
@@ -93,7 +93,7 @@ pub fn body_seen(geom: &Geom, seen: &Seen, object: ObjNo) -> Result<Body, Stop>
 pub fn sub_block(geom: &Geom, seen: &Seen, body: &Body, n: u32) -> Result<SubBlock, Stop>
     requires geom { IsGeom geom.now }
     requires inside { body.now.object < items_of geom.now Fd }
-    ensures answer { (p : Parts) → Reads geom.now (look_of seen.now) p → result ≡ sub_seen geom.now seen.now p body.now n }
+    ensures answer { (p : Parts) → ReadsParts geom.now (look_of seen.now) p → result ≡ sub_seen geom.now seen.now p body.now n }
     ensures is_sub { IfOk result IsSubBlock }
     ensures within { IfOk result (λ _. n < items_of geom.now Sb) }
 {

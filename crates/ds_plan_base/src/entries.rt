@@ -5,7 +5,7 @@ ghost use Rattle.ds_base.specs.declared.geometry.Kind.TheVariants.{Fd, Sb};
 ghost use Rattle.ds_dir.specs.SubBlock.{IsSubBlock};
 ghost use Rattle.ds_image.specs.Objects.{subs_of};
 ghost use Rattle.ds_image.specs.Parts.{Parts};
-ghost use Rattle.ds_image.specs.Readings.{Reads};
+ghost use Rattle.ds_image.specs.Readings.{ReadsParts};
 ghost use Rattle.ds_image.specs.SeenValues.{look_of};
 ghost use Rattle.ds_plan_base.specs.Entries.{found_among, found_in, named_among, room_named, wanted_entry};
 ghost use Rattle.ds_plan_base.specs.Objects.{IsFoundRoom};
@@ -40,7 +40,7 @@ pub struct Named {
 pub fn find(geom: &Geom, seen: &Seen, dir: &Body, name: &Name) -> Result<Option<Found>, Stop>
     requires geom { IsGeom geom.now }
     requires inside { dir.now.object < items_of geom.now Fd }
-    ensures answer { (p : Parts) → Reads geom.now (look_of seen.now) p → result ≡ found_in geom.now seen.now p dir.now name.now }
+    ensures answer { (p : Parts) → ReadsParts geom.now (look_of seen.now) p → result ≡ found_in geom.now seen.now p dir.now name.now }
     ensures is_room { IfOk result (λ r. IfSome r IsFoundRoom) }
     ensures within { IfOk result (λ r. IfSome r (λ found. found.sub < items_of geom.now Sb)) }
 {
@@ -57,7 +57,7 @@ pub fn find(geom: &Geom, seen: &Seen, dir: &Body, name: &Name) -> Result<Option<
 pub fn wanted_entry(geom: &Geom, seen: &Seen, dir: &Body, name: &Name) -> Result<Found, Stop>
     requires geom { IsGeom geom.now }
     requires inside { dir.now.object < items_of geom.now Fd }
-    ensures answer { (p : Parts) → Reads geom.now (look_of seen.now) p
+    ensures answer { (p : Parts) → ReadsParts geom.now (look_of seen.now) p
         → result ≡ wanted_entry geom.now seen.now p dir.now name.now }
     ensures is_room { IfOk result IsFoundRoom }
     ensures within { IfOk result (λ found. found.sub < items_of geom.now Sb) }

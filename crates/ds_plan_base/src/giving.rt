@@ -3,7 +3,7 @@ ghost use Rattle.std.specs.Prelude.{◌≡◌, ◌+◌, ◌<◌, ◌≤◌, leng
 ghost use Rattle.ds_base.specs.Geometry.{IsGeom, clusters_of, items_of, per_cluster};
 ghost use Rattle.ds_bitmap.specs.Bits.{IsBits};
 ghost use Rattle.ds_image.specs.Parts.{Parts};
-ghost use Rattle.ds_image.specs.Readings.{Reads};
+ghost use Rattle.ds_image.specs.Readings.{ReadsParts};
 ghost use Rattle.ds_image.specs.SeenValues.{look_of};
 ghost use Rattle.ds_plan_base.specs.Giving.{given_up, is_touched, map_left, map_without, some_outside};
 
@@ -28,7 +28,7 @@ pub fn give_up(
 ) -> Result<Redo, Stop>
     requires geom { IsGeom geom.now }
     requires room { length redo.pairs.items ≤ 23 }
-    ensures answer { (p : Parts) → Reads geom.now (look_of seen.now) p
+    ensures answer { (p : Parts) → ReadsParts geom.now (look_of seen.now) p
         → result ≡ given_up geom.now seen.now p kind items.now listed redo }
     ensures few { IfOk result (λ r. length r.pairs.items ≤ length redo.pairs.items + 8) }
 {
@@ -76,7 +76,7 @@ fn is_touched(geom: &Geom, kind: Kind, cluster: u8, items: &[u32]) -> bool
 fn map_left(geom: &Geom, seen: &Seen, kind: Kind, cluster: u8, items: &[u32]) -> Result<Bits, Stop>
     requires geom { IsGeom geom.now }
     requires inside { cluster < clusters_of geom.now kind }
-    ensures { (p : Parts) → Reads geom.now (look_of seen.now) p
+    ensures { (p : Parts) → ReadsParts geom.now (look_of seen.now) p
         → result ≡ map_left geom.now seen.now p kind cluster items.now }
 {
     let map = map_seen(geom, seen, kind, cluster)?;

@@ -3,7 +3,7 @@ ghost use Rattle.std.specs.Prelude.{◌≡◌, ◌<◌, ◌-◌, Some, IfOk, IfS
 ghost use Rattle.ds_base.specs.Geometry.{IsGeom, clusters_of, per_cluster};
 ghost use Rattle.ds_bitmap.specs.Bits.{IsBits};
 ghost use Rattle.ds_image.specs.Parts.{Parts};
-ghost use Rattle.ds_image.specs.Readings.{Reads};
+ghost use Rattle.ds_image.specs.Readings.{ReadsParts};
 ghost use Rattle.ds_image.specs.SeenValues.{look_of};
 ghost use Rattle.ds_plan_base.specs.Items.{IsFreeItem, first_clear, free_item, map_read, map_seen, number_of, wanted_item};
 ghost use Rattle.ds_image.specs.Locks.{cluster_tried};
@@ -25,7 +25,7 @@ pub struct FreeItem {
 /// A free item of a kind that a call needs; otherwise what a planner asks for, or answers, before it knows one.
 pub fn wanted_item(geom: &Geom, seen: &Seen, kind: Kind, slot: SlotNo) -> Result<FreeItem, Stop>
     requires { IsGeom geom.now }
-    ensures answer { (p : Parts) → Reads geom.now (look_of seen.now) p
+    ensures answer { (p : Parts) → ReadsParts geom.now (look_of seen.now) p
         → result ≡ wanted_item geom.now slot seen.now p kind }
     ensures is_free { IfOk result (IsFreeItem geom.now kind) }
 {
@@ -38,7 +38,7 @@ pub fn wanted_item(geom: &Geom, seen: &Seen, kind: Kind, slot: SlotNo) -> Result
 /// The first free item of a kind: clusters are tried from the slot's number on, and round, and in a cluster the lowest is taken.
 fn free_item(geom: &Geom, seen: &Seen, kind: Kind, slot: SlotNo) -> Result<Option<FreeItem>, Stop>
     requires { IsGeom geom.now }
-    ensures answer { (p : Parts) → Reads geom.now (look_of seen.now) p
+    ensures answer { (p : Parts) → ReadsParts geom.now (look_of seen.now) p
         → result ≡ free_item geom.now slot seen.now p kind }
     ensures is_free { IfOk result (λ r. IfSome r (IsFreeItem geom.now kind)) }
 {
@@ -62,7 +62,7 @@ fn first_free(map: &Bits) -> Option<u16>
 pub fn map_seen(geom: &Geom, seen: &Seen, kind: Kind, cluster: u8) -> Result<Bits, Stop>
     requires geom { IsGeom geom.now }
     requires inside { cluster < clusters_of geom.now kind }
-    ensures answer { (p : Parts) → Reads geom.now (look_of seen.now) p
+    ensures answer { (p : Parts) → ReadsParts geom.now (look_of seen.now) p
         → result ≡ map_seen geom.now seen.now p kind cluster }
     ensures is_bits { IfOk result (IsBits geom.now kind cluster) }
 {
@@ -77,7 +77,7 @@ pub fn map_seen(geom: &Geom, seen: &Seen, kind: Kind, cluster: u8) -> Result<Bit
 pub fn map_read(geom: &Geom, seen: &Seen, kind: Kind, cluster: u8) -> Result<Bits, Stop>
     requires geom { IsGeom geom.now }
     requires inside { cluster < clusters_of geom.now kind }
-    ensures answer { (p : Parts) → Reads geom.now (look_of seen.now) p
+    ensures answer { (p : Parts) → ReadsParts geom.now (look_of seen.now) p
         → result ≡ map_read geom.now seen.now p kind cluster }
     ensures is_bits { IfOk result (IsBits geom.now kind cluster) }
 {

@@ -3,7 +3,7 @@ ghost use Rattle.std.specs.Prelude.{◌≡◌, ◌<◌, IfOk};
 ghost use Rattle.ds_base.specs.Geometry.{IsGeom, items_of};
 ghost use Rattle.ds_base.specs.declared.geometry.Kind.TheVariants.{Fd, Pb};
 ghost use Rattle.ds_image.specs.Parts.{Parts};
-ghost use Rattle.ds_image.specs.Readings.{Reads};
+ghost use Rattle.ds_image.specs.Readings.{ReadsParts};
 ghost use Rattle.ds_image.specs.SeenValues.{look_of};
 ghost use Rattle.ds_plan_base.specs.Pointers.{pointer_seen};
 ghost use Rattle.ds_ptr.specs.PtrBlock.{IsPtrBlock};
@@ -19,7 +19,7 @@ use ds_ptr::PtrBlock;
 pub fn pointer_block(geom: &Geom, seen: &Seen, body: &Body, n: u32) -> Result<PtrBlock, Stop>
     requires geom { IsGeom geom.now }
     requires inside { body.now.object < items_of geom.now Fd }
-    ensures answer { (p : Parts) → Reads geom.now (look_of seen.now) p
+    ensures answer { (p : Parts) → ReadsParts geom.now (look_of seen.now) p
         → result ≡ pointer_seen geom.now seen.now p body.now n }
     ensures inside { IfOk result (λ _. n < items_of geom.now Pb) }
     ensures is_block { IfOk result IsPtrBlock }

@@ -3,7 +3,7 @@ ghost use Rattle.std.specs.Prelude.{◌≡◌, ◌<◌, ◌≤◌};
 ghost use Rattle.ds_base.specs.Geometry.{IsGeom, items_of};
 ghost use Rattle.ds_base.specs.declared.geometry.Kind.TheVariants.{Fd};
 ghost use Rattle.ds_image.specs.Parts.{Parts};
-ghost use Rattle.ds_image.specs.Readings.{Reads};
+ghost use Rattle.ds_image.specs.Readings.{ReadsParts};
 ghost use Rattle.ds_image.specs.SeenValues.{look_of};
 ghost use Rattle.ds_plan_base.specs.Rooms.{first_room, free_in, room_for, used_count};
 
@@ -28,7 +28,7 @@ pub struct FreeRoom {
 pub fn room_for(geom: &Geom, seen: &Seen, dir: &Body, name: &Name) -> Result<Option<FreeRoom>, Stop>
     requires geom { IsGeom geom.now }
     requires inside { dir.now.object < items_of geom.now Fd }
-    ensures { (p : Parts) → Reads geom.now (look_of seen.now) p → result ≡ room_for geom.now seen.now p dir.now name.now }
+    ensures { (p : Parts) → ReadsParts geom.now (look_of seen.now) p → result ≡ room_for geom.now seen.now p dir.now name.now }
 {
     let mut count = 0;
     let mut free = None;

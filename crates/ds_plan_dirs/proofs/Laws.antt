@@ -6,7 +6,7 @@ use Rattle.ds_base.specs.declared.geometry.Geom.{Geom}
 use Rattle.ds_base.specs.declared.names.Key.{Key}
 use Rattle.ds_image.specs.Parts.{Parts}
 use Rattle.ds_image.specs.Planning.{AllAreAllowed, AllAreFew, AllKeep}
-use Rattle.ds_image.specs.Readings.{Reads}
+use Rattle.ds_image.specs.Readings.{ReadsParts}
 use Rattle.ds_image.specs.SeenValues.{SeenValue, look_of}
 use Rattle.ds_image.specs.declared.asks.Ask.{Ask}
 use Rattle.ds_plan_dirs.specs.Answers.{ReadsValue, call_of, answers_of}
@@ -24,7 +24,7 @@ abbrev dir_of : ReadCall → Key
 dir_of (kept.Lookup dir name) = dir
 dir_of (kept.List dir above) = dir
 
-asks_of : (g : Geom) (slot : ℕ) (call : ReadCall) (seen : SeenValue) (p : Parts) → Reads g (look_of seen) p
+asks_of : (g : Geom) (slot : ℕ) (call : ReadCall) (seen : SeenValue) (p : Parts) → ReadsParts g (look_of seen) p
     → DirAsks g (call_of call) (dir_of call).object seen p (answers_of (record { geom = g; slot = slot; call = call }) seen p)
 asks_of g slot (kept.Lookup dir name) seen p reads = lookup_asks g dir name seen p reads
 asks_of g slot (kept.List dir above) seen p reads = list_asks g dir above seen p reads

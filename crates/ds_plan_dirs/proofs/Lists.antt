@@ -16,13 +16,13 @@ use Rattle.ds_dir.specs.declared.sub_block.Entry.{Entry}
 use Rattle.ds_fd.specs.declared.body.Body.{Body}
 use Rattle.ds_image.specs.Objects.{subs_by, subs_of, used_rooms, entries_of}
 use Rattle.ds_image.specs.Parts.{Parts, part_at}
-use Rattle.ds_image.specs.Readings.{Reads}
+use Rattle.ds_image.specs.Readings.{ReadsParts}
 use Rattle.ds_image.specs.SeenValues.{SeenValue, look_of}
 use Rattle.ds_image.specs.Sound.{StandsFor, IsNamedRight}
 use Rattle.ds_image.specs.SoundObjects.{AreNamesApart}
 use Rattle.ds_image.specs.declared.asks.Ask.{Ask}
 use Rattle.ds_image.specs.declared.asks.Ask.TheVariants as asks
-use Rattle.ds_image.proofs.EntryNames.{pairs, find-some, apart-index, get-entries}
+use Rattle.ds_image.proofs.FileTrees.EntryNames.{pairs, find-some, apart-index, get-entries}
 use Rattle.ds_plan_dirs.specs.Answers.{list_known}
 use Rattle.ds_plan_dirs.proofs.Lookups.{dir_named}
 use Rattle.ds_plan_dirs.specs.Pages.{name_cmp, name_key, entries_past, keys_by_name, page_names, page_of}
@@ -168,7 +168,7 @@ module _ (g : Geom) (dir : Key) (above : Option (List ℕ)) where
       })
 
   -- all that a List asks for is good
-  pub list_asks : (seen : SeenValue) (p : Parts) → Reads g (look_of seen) p
+  pub list_asks : (seen : SeenValue) (p : Parts) → ReadsParts g (look_of seen) p
       → DirAsks g (calls.List dir above) dir.object seen p (settled (list_known g seen p dir above))
   list_asks seen p reads =
       let Good : Ask → Type 0 = DirAsks g (calls.List dir above) dir.object seen p in

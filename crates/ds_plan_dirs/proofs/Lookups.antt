@@ -14,12 +14,12 @@ use Rattle.ds_fd.specs.declared.body.Body.{Body}
 use Rattle.ds_image.specs.Asking.{HasItsBlock}
 use Rattle.ds_image.specs.Objects.{subs_by, subs_of, used_rooms, entries_of, node_by}
 use Rattle.ds_image.specs.Parts.{Parts, part_at}
-use Rattle.ds_image.specs.Readings.{Reads}
+use Rattle.ds_image.specs.Readings.{ReadsParts}
 use Rattle.ds_image.specs.SeenValues.{SeenValue, look_of}
 use Rattle.ds_image.specs.Sound.{StandsFor, IsNamedRight}
 use Rattle.ds_image.specs.declared.asks.Ask.{Ask}
 use Rattle.ds_image.specs.declared.asks.Ask.TheVariants as asks
-use Rattle.ds_image.proofs.EntryNames.{get-entries}
+use Rattle.ds_image.proofs.FileTrees.EntryNames.{get-entries}
 use Rattle.ds_plan_dirs.specs.Answers.{lookup_reply, lookup_known}
 use Rattle.ds_plan_base.specs.Bodies.{dir_of_key}
 use Rattle.ds_plan_base.proofs.DirAsks.{DirAsks}
@@ -112,7 +112,7 @@ module _ (g : Geom) (dir : Key) (name : List ℕ) where
   block_none (Some found) = tt
 
   -- all that a Lookup asks for is good
-  pub lookup_asks : (seen : SeenValue) (p : Parts) → Reads g (look_of seen) p
+  pub lookup_asks : (seen : SeenValue) (p : Parts) → ReadsParts g (look_of seen) p
       → DirAsks g (calls.Lookup dir name) dir.object seen p (settled (lookup_known g seen p dir name))
   lookup_asks seen p reads =
       let Good : Ask → Type 0 = DirAsks g (calls.Lookup dir name) dir.object seen p in

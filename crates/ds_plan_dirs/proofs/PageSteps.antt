@@ -13,7 +13,7 @@ use Rattle.ds_fd.specs.declared.body.Body.{Body}
 use Rattle.ds_image.specs.Objects.{rooms_in, used_rooms}
 use Rattle.ds_image.specs.Parts.{Parts}
 use Rattle.ds_image.specs.SeenValues.{SeenValue}
-use Rattle.ds_image.proofs.ListedItems.{used_rooms-more}
+use Rattle.ds_image.proofs.Ownership.ListedItems.{used_rooms-more}
 use Rattle.ds_plan_dirs.specs.Answers.{page_known}
 use Rattle.ds_plan_dirs.specs.Pages.{name_cmp, page_names, page_of}
 use Rattle.ds_plan_base.specs.Bodies.{sub_seen}

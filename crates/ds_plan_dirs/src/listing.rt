@@ -5,7 +5,7 @@ ghost use Rattle.ds_base.specs.Geometry.{IsGeom, items_of};
 ghost use Rattle.ds_base.specs.declared.geometry.Kind.TheVariants.{Fd};
 ghost use Rattle.ds_dir.specs.declared.sub_block.Entry.{Entry};
 ghost use Rattle.ds_image.specs.Parts.{Parts};
-ghost use Rattle.ds_image.specs.Readings.{Reads};
+ghost use Rattle.ds_image.specs.Readings.{ReadsParts};
 ghost use Rattle.ds_image.specs.SeenValues.{look_of};
 ghost use Rattle.ds_plan_dirs.specs.Answers.{list_known, page_known};
 ghost use Rattle.ds_plan_dirs.specs.Pages.{page_names, place_in, put_new};
@@ -31,7 +31,7 @@ pub(crate) fn list(
     after: &Option<Name>,
 ) -> Result<TreeReply, Stop>
     requires { IsGeom geom.now }
-    ensures { (p : Parts) → Reads geom.now (look_of seen.now) p
+    ensures { (p : Parts) → ReadsParts geom.now (look_of seen.now) p
         → result ≡ list_known geom.now seen.now p dir.now after.now }
 {
     let body = dir_of_key(geom, seen, dir)?;
@@ -49,7 +49,7 @@ fn page_of(
     requires geom { IsGeom geom.now }
     requires inside { dir.now.object < items_of geom.now Fd }
     requires few { length subs.now ≤ 96 }
-    ensures { (p : Parts) → Reads geom.now (look_of seen.now) p
+    ensures { (p : Parts) → ReadsParts geom.now (look_of seen.now) p
         → result ≡ page_known geom.now seen.now p after.now dir.now subs.now }
 {
     let mut total = 0;

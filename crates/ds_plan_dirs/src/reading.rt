@@ -3,7 +3,7 @@ ghost use Rattle.std.specs.Prelude.{◌≡◌, IfSome};
 ghost use Rattle.ds_base.specs.Geometry.{IsGeom};
 ghost use Rattle.ds_base.specs.Names.{IsName};
 ghost use Rattle.ds_image.specs.Parts.{Parts};
-ghost use Rattle.ds_image.specs.Readings.{Reads};
+ghost use Rattle.ds_image.specs.Readings.{ReadsParts};
 ghost use Rattle.ds_image.specs.SeenValues.{look_of};
 ghost use Rattle.ds_plan_dirs.specs.Answers.{IsRead, answers_of, call_of, known_by, lookup_known};
 ghost use Rattle.ds_tree.specs.CallNames.{HasNames};
@@ -80,7 +80,7 @@ impl DirReads {
 
     /// What the call needs next by what it has seen, or how it ends.
     pub fn ask(&self, seen: &Seen) -> Ask
-        ensures { (p : Parts) → Reads self.now.geom (look_of seen.now) p → result ≡ answers_of self.now seen.now p }
+        ensures { (p : Parts) → ReadsParts self.now.geom (look_of seen.now) p → result ≡ answers_of self.now seen.now p }
     {
         match self.known(seen) {
             Ok(reply) => Ask::Done(reply),
@@ -90,7 +90,7 @@ impl DirReads {
 
     /// The reply, or what is asked for before it is known.
     fn known(&self, seen: &Seen) -> Result<TreeReply, Stop>
-        ensures { (p : Parts) → Reads self.now.geom (look_of seen.now) p
+        ensures { (p : Parts) → ReadsParts self.now.geom (look_of seen.now) p
             → result ≡ known_by self.now.geom seen.now p self.now.call }
     {
         match &self.call {
@@ -113,7 +113,7 @@ fn name_of_optional(word: &Option<Word>) -> Option<Name>
 /// What Lookup answers.
 fn lookup(geom: &Geom, seen: &Seen, dir: &Key, name: &Name) -> Result<TreeReply, Stop>
     requires { IsGeom geom.now }
-    ensures { (p : Parts) → Reads geom.now (look_of seen.now) p
+    ensures { (p : Parts) → ReadsParts geom.now (look_of seen.now) p
         → result ≡ lookup_known geom.now seen.now p dir.now name.now }
 {
     let body = dir_of_key(geom, seen, dir)?;

@@ -11,8 +11,8 @@ use Rattle.ds_image.specs.Objects.{rooms_in, subs_of, subs_by, used_rooms}
 use Rattle.ds_image.specs.Owns.{IsAt}
 use Rattle.ds_image.specs.Parts.{Parts, part_at}
 use Rattle.ds_image.specs.Sound.{IsSound, sub_lists}
-use Rattle.ds_image.proofs.Sizes.{part_within}
-use Rattle.ds_image.proofs.SoundParts.{objects-of}
+use Rattle.ds_image.proofs.Spelling.Sizes.{part_within}
+use Rattle.ds_image.proofs.Spelling.SoundParts.{objects-of}
 use Rattle.ds_plan_laws_new.specs.Entering.{subs_in, FillsRoom}
 use Rattle.ds_plan_laws_new.specs.Puts.{IsPut}
 use Rattle.ds_plan_laws_new.proofs.Listed.{listed-by, listed-in, part-put}

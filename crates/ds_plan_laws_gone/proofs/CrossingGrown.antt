@@ -18,12 +18,12 @@ use Rattle.ds_image.specs.Looks.{Look}
 use Rattle.ds_image.specs.Objects.{rooms_in, subs_of, subs_by, used_rooms}
 use Rattle.ds_image.specs.Owns.{Owns, IsAt, list_of}
 use Rattle.ds_image.specs.Parts.{Parts, part_at, AllSpelled, maps_of, bits_in}
-use Rattle.ds_image.specs.Readings.{Reads}
+use Rattle.ds_image.specs.Readings.{ReadsParts}
 use Rattle.ds_image.specs.Sound.{IsSound, sub_lists}
-use Rattle.ds_image.proofs.Listed.{bits_length}
-use Rattle.ds_image.proofs.Owning.{owns-alike, owns-grown}
-use Rattle.ds_image.proofs.Sizes.{part_within, body_is}
-use Rattle.ds_image.proofs.SoundParts.{each_kind, list-is, objects-of}
+use Rattle.ds_image.proofs.Ownership.Listed.{bits_length}
+use Rattle.ds_image.proofs.Ownership.Owning.{owns-alike, owns-grown}
+use Rattle.ds_image.proofs.Spelling.Sizes.{part_within, body_is}
+use Rattle.ds_image.proofs.Spelling.SoundParts.{each_kind, list-is, objects-of}
 use Rattle.ds_plan_laws_new.specs.Entering.{subs_in}
 use Rattle.ds_plan_laws_new.specs.Puts.{IsPut}
 use Rattle.ds_image.proofs.Bits.{bits-set, bits-get, all-put, bit-within}
@@ -35,7 +35,7 @@ use Rattle.ds_plan_laws_gone.proofs.Crossing.{crossed_grown, at-second, at-other
 use Rattle.ds_plan_laws_gone.proofs.Kept.{KeepsObjects}
 use Rattle.ds_plan_laws_gone.proofs.Moved.{MovesParts}
 
-module _ (g : Geom) (look : Look) (p : Parts) (reads : Reads g look p) (sound : IsSound p)
+module _ (g : Geom) (look : Look) (p : Parts) (reads : ReadsParts g look p) (sound : IsSound p)
     (key to : Key) (dir to_dir : Body) (e fresh : Entry) (n : ℕ) (block : SubBlock) (ready : ReadyToLeave p key to dir to_dir e fresh n block)
     (m : ℕ) (grown : Body) (c : ℕ) (sub_map : Bitmap) (block' : SubBlock) (add : ReadyToAdd g p to_dir m fresh grown c sub_map block') where
   abbrev r : ℕ

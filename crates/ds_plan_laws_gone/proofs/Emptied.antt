@@ -13,12 +13,11 @@ use Rattle.ds_dir.specs.declared.sub_block.Entry.{Entry}
 use Rattle.ds_dir.specs.declared.sub_block.SubBlock.{SubBlock}
 use Rattle.ds_fd.specs.declared.body.Body.{Body}
 use Rattle.ds_image.specs.Objects.{rooms_in, subs_of}
-use Rattle.ds_image.specs.Owned.{ClearsMarks}
 use Rattle.ds_image.specs.Parts.{Parts, part_at, AllSpelled, maps_of, bits_in}
-use Rattle.ds_image.specs.Readings.{Reads}
+use Rattle.ds_image.specs.Readings.{ReadsParts}
 use Rattle.ds_image.specs.Sound.{IsSound}
-use Rattle.ds_image.proofs.Sizes.{part_within}
-use Rattle.ds_image.proofs.SoundParts.{all-at}
+use Rattle.ds_image.proofs.Spelling.Sizes.{part_within}
+use Rattle.ds_image.proofs.Spelling.SoundParts.{all-at}
 use Rattle.ds_plan_laws_new.specs.Entering.{subs_in}
 use Rattle.ds_plan_laws_new.specs.Puts.{IsPut}
 use Rattle.ds_plan_laws_new.proofs.Listed.{listed-by, listed-in, part-put}
@@ -28,6 +27,7 @@ use Rattle.ds_plan_laws_gone.specs.Leaving.{ReadyToGo, given_up, changed_parts}
 use Rattle.ds_plan_laws_gone.specs.MapWrites.{MapWrite, with_all_maps}
 use Rattle.ds_plan_laws_gone.proofs.Gone.{GoesFrom}
 use Rattle.ds_plan_laws_gone.proofs.MapWrites.{SameButMaps, same-but_maps, all-written, clears-marks}
+use Rattle.ds_image.proofs.Ownership.Marking.{ClearsMarks}
 
 -- a sub-block with a room changed is one
 pub room-is_sub : (before after : SubBlock) (room : ℕ) (r : Option Entry) → IsSubBlock before → IsRoom r → after.rooms ≡ slice_set before.rooms room r → IsSubBlock after
@@ -56,7 +56,7 @@ maps-changed p writes o n body block Sb = refl
 maps-changed p writes o n body block Pb = refl
 maps-changed p writes o n body block Fb = refl
 
-module _ (g : Geom) (is : IsGeom g) (image : List Sector) (p : Parts) (reads : Reads g (slice_get image) p) (sound : IsSound p)
+module _ (g : Geom) (is : IsGeom g) (image : List Sector) (p : Parts) (reads : ReadsParts g (slice_get image) p) (sound : IsSound p)
     (key : Key) (dir : Body) (e : Entry) (old new : Body) (n : ℕ) (block : SubBlock) (writes : List MapWrite)
     (ready : ReadyToGo g p key dir e old new n block writes) where
   abbrev o : ℕ

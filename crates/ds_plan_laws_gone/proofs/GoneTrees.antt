@@ -12,8 +12,8 @@ use Rattle.ds_tree.specs.Steps.{Removes}
 use Rattle.ds_image.specs.Objects.{node_by, object_of, tree_of, entries_of, used_rooms}
 use Rattle.ds_image.specs.Parts.{Parts, part_at}
 use Rattle.ds_image.specs.Sound.{IsSound}
-use Rattle.ds_image.proofs.EntryNames.{find-at, get-entries}
-use Rattle.ds_image.proofs.TreeParts.{object-is, objects-are}
+use Rattle.ds_image.proofs.FileTrees.EntryNames.{find-at, get-entries}
+use Rattle.ds_image.proofs.FileTrees.TreeParts.{object-is, objects-are}
 use Rattle.ds_plan_laws_new.specs.Entering.{subs_in}
 use Rattle.ds_plan_laws_new.proofs.EnteredTrees.{dir-object}
 use Rattle.ds_plan_laws_new.proofs.Names.{by_name-taken}

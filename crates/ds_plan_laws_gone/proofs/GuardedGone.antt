@@ -20,7 +20,7 @@ use Rattle.ds_image.specs.Looks.{Look}
 use Rattle.ds_image.specs.Owns.{IsAt}
 use Rattle.ds_image.specs.Parts.{Parts}
 use Rattle.ds_image.specs.Pending.{Pair}
-use Rattle.ds_image.specs.Readings.{Reads}
+use Rattle.ds_image.specs.Readings.{ReadsParts}
 use Rattle.ds_image.specs.Sound.{StandsFor, IsSound, sub_lists}
 use Rattle.ds_image.specs.Guards.{GuardedBy}
 use Rattle.ds_image.proofs.SectorGuards.{guard-body, guard-map, guard-sub_listed}
@@ -33,7 +33,7 @@ use Rattle.ds_plan_laws_gone.proofs.StandsGone.{gone-pairs, gone-reads}
 use Rattle.ds_plan_laws_gone.proofs.StandsGone as leaving
 
 -- bitmaps that are written before others sectors
-pub guarded-maps : (g : Geom) (look : Look) (q : Parts) → Reads g look q → (Held : ℕ → Type 0) (writes : List MapWrite) (rest : List Pair)
+pub guarded-maps : (g : Geom) (look : Look) (q : Parts) → ReadsParts g look q → (Held : ℕ → Type 0) (writes : List MapWrite) (rest : List Pair)
     → ((i : ℕ) (w : MapWrite) → slice_get writes i ≡ Some w → (w.cluster < clusters_of g w.kind) × Held (cluster_lock w.kind w.cluster))
     → All (GuardedBy g look Held) (targets_of rest) → All (GuardedBy g look Held) (targets_of (map_pairs g writes ++ rest))
 guarded-maps g look q reads Held [] rest each all = all
@@ -55,7 +55,7 @@ module _ (g : Geom) (is : IsGeom g) (image : List Sector) (t : FileTree) (stands
   abbrev gone-after : List Sector
   gone-after = leaving.after g is image t stands key dir e old new n block writes ready body_sector block_sector spells_body spells_block
 
-  gone-guarded : (look : Look) (q : Parts) → Reads g look q → IsSound q → IsAt (sub_lists q) key.object ready.empties.place n
+  gone-guarded : (look : Look) (q : Parts) → ReadsParts g look q → IsSound q → IsAt (sub_lists q) key.object ready.empties.place n
       → All (GuardedBy g look Held) (targets_of (gone-pairs g writes e.key.object n body_sector block_sector))
   gone-guarded look q reads sound at =
       let Is = GuardedBy g look Held in

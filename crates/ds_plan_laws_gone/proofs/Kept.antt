@@ -13,9 +13,9 @@ use Rattle.ds_image.specs.Owns.{Owns, list_of}
 use Rattle.ds_image.specs.Parts.{Parts, part_at, AllSpelled, maps_of, bits_in}
 use Rattle.ds_image.specs.Sound.{IsSound, IsNamedRight, AreZero, sub_lists, ptr_lists, block_lists, rooms_used_by}
 use Rattle.ds_image.specs.SoundObjects.{AreNamesApart, IsSoundObject, IsMarked}
-use Rattle.ds_image.proofs.Owning.{owns-alike}
-use Rattle.ds_image.proofs.Sizes.{part_within}
-use Rattle.ds_image.proofs.SoundParts.{all-from_at, list-is, sound-from, objects-of}
+use Rattle.ds_image.proofs.Ownership.Owning.{owns-alike}
+use Rattle.ds_image.proofs.Spelling.Sizes.{part_within}
+use Rattle.ds_image.proofs.Spelling.SoundParts.{all-from_at, list-is, sound-from, objects-of}
 use Rattle.ds_plan_laws_new.specs.Entering.{subs_in}
 use Rattle.ds_image.proofs.Bits.{all-put}
 use Rattle.ds_plan_laws_new.proofs.NewBodies.{dir-lists_none, blocks-same, tail-same}

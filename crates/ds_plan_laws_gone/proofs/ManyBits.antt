@@ -9,12 +9,11 @@ use Rattle.ds_base.specs.declared.geometry.Geom.{Geom}
 use Rattle.ds_base.specs.declared.geometry.Kind.{Kind}
 use Rattle.ds_bitmap.specs.Bits.{Bitmap}
 use Rattle.ds_image.specs.Looks.{Look}
-use Rattle.ds_image.specs.Owned.{ClearsMarks}
 use Rattle.ds_image.specs.Owns.{bit}
 use Rattle.ds_image.specs.Parts.{part_at, AllSpelled, bits_in}
 use Rattle.ds_image.specs.Readings.{SpellsBits, IsReading}
-use Rattle.ds_image.proofs.Listed.{bits_length}
-use Rattle.ds_image.proofs.Places.{marked-within}
+use Rattle.ds_image.proofs.Ownership.Listed.{bits_length}
+use Rattle.ds_image.proofs.Spelling.Places.{marked-within}
 use Rattle.ds_image.proofs.Bits.{bits-get}
 
 pub some-is : {V : Type 0} (r : Option V) → IsSome r → (v : V) × (r ≡ Some v)

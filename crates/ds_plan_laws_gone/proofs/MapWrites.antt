@@ -12,12 +12,11 @@ use Rattle.ds_bitmap.specs.Bits.{Bitmap, IsBits, bits_bytes}
 use Rattle.ds_layout.specs.Places.{place_sector}
 use Rattle.ds_layout.specs.declared.places.Place.TheVariants as places
 use Rattle.ds_image.specs.Logical.{laid_over}
-use Rattle.ds_image.specs.Owned.{ClearsMarks}
 use Rattle.ds_image.specs.Owns.{bit}
 use Rattle.ds_image.specs.Parts.{Parts, part_at, AllSpelled, maps_of, bits_in}
-use Rattle.ds_image.specs.Readings.{Reads}
-use Rattle.ds_image.proofs.Listed.{bits_length}
-use Rattle.ds_image.proofs.Places.{marked-within}
+use Rattle.ds_image.specs.Readings.{ReadsParts}
+use Rattle.ds_image.proofs.Ownership.Listed.{bits_length}
+use Rattle.ds_image.proofs.Spelling.Places.{marked-within}
 use Rattle.ds_plan_laws_new.specs.Changed.{with_maps}
 use Rattle.ds_image.proofs.Bits.{all-put}
 use Rattle.ds_plan_laws_new.proofs.Frames.{reads-map}
@@ -25,6 +24,7 @@ use Rattle.ds_plan_laws_new.proofs.Spelling.{map-at}
 use Rattle.ds_plan_laws_gone.specs.MapWrites.{MapWrite, map_pairs, with_map, with_all_maps, BitChange, ChangesMap, ChangesMaps, IsUnwritten, AreWrittenOnce, IsClearedOf, IsReplacedBy, ClearsMaps}
 use Rattle.ds_plan_laws_gone.specs.Replaced.{ReplacesMarks}
 use Rattle.ds_plan_laws_gone.proofs.ManyBits.{some-is, bits-each, bits-count, clears-each}
+use Rattle.ds_image.proofs.Ownership.Marking.{ClearsMarks}
 
 pub same-kind_or_not : (a b : Kind) → (a ≡ b) ⊎ (a ≢ b)
 same-kind_or_not Fd Fd = inl refl
@@ -176,8 +176,8 @@ pub record AreMaps (g : Geom) (writes : List MapWrite) : Type 0 where
   pub spells : (i : ℕ) (w : MapWrite) → slice_get writes i ≡ Some w → w.sector.bytes ≡ bits_bytes w.map
 
 pub reads-maps : (g : Geom) (is : IsGeom g) (image : List Sector) (p : Parts) (writes : List MapWrite) → AreMaps g writes
-    → ((kind : Kind) → AllSpelled (maps_of p kind)) → Reads g (slice_get image) p
-    → Reads g (slice_get (laid_over image (map_pairs g writes))) (with_all_maps p writes)
+    → ((kind : Kind) → AllSpelled (maps_of p kind)) → ReadsParts g (slice_get image) p
+    → ReadsParts g (slice_get (laid_over image (map_pairs g writes))) (with_all_maps p writes)
 reads-maps g is image p [] are all reads = reads
 reads-maps g is image p (w ∷ writes) are all reads =
     let cluster : w.cluster < clusters_of g w.kind = are.within 0 w refl in
@@ -188,7 +188,7 @@ reads-maps g is image p (w ∷ writes) are all reads =
     (reads-map g image p w.kind w.cluster w.map w.sector is cluster (map-at g image p reads w.kind w.cluster was.0 was.1).1 (are.bits 0 w refl) (are.spells 0 w refl) reads)
 
 -- bitmaps that change others are of their clusters
-pub changed-are_maps : (g : Geom) (image : List Sector) (p : Parts) (Change : BitChange) (writes : List MapWrite) → Reads g (slice_get image) p
+pub changed-are_maps : (g : Geom) (image : List Sector) (p : Parts) (Change : BitChange) (writes : List MapWrite) → ReadsParts g (slice_get image) p
     → ((i : ℕ) (w : MapWrite) → slice_get writes i ≡ Some w → ChangesMap g p Change w) → AreMaps g writes
 changed-are_maps g image p Change writes reads each = record {
   within = λ i w at. let one = each i w at in (map-at g image p reads w.kind w.cluster one.before one.there).0;
@@ -201,10 +201,10 @@ changed-are_maps g image p Change writes reads each = record {
 
 -- The bits of all kinds after
 
-module _ (g : Geom) (is : IsGeom g) (image : List Sector) (p : Parts) (reads : Reads g (slice_get image) p) (all : (kind : Kind) → AllSpelled (maps_of p kind))
+module _ (g : Geom) (is : IsGeom g) (image : List Sector) (p : Parts) (reads : ReadsParts g (slice_get image) p) (all : (kind : Kind) → AllSpelled (maps_of p kind))
     (writes : List MapWrite) where
   module _ (Change : BitChange) (changes : ChangesMaps g p Change writes) where
-    pub changes-read : Reads g (slice_get (laid_over image (map_pairs g writes))) (with_all_maps p writes)
+    pub changes-read : ReadsParts g (slice_get (laid_over image (map_pairs g writes))) (with_all_maps p writes)
     changes-read = reads-maps g is image p writes (changed-are_maps g image p Change writes reads changes.each) all reads
 
     -- each item's bit changes as the bitmaps say

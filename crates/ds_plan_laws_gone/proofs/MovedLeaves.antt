@@ -21,10 +21,10 @@ use Rattle.ds_tree.specs.declared.calls.CallOf.TheVariants.{Rename}
 use Rattle.ds_tree.specs.declared.calls.TreeReply.TheVariants.{Moved}
 use Rattle.ds_image.specs.Objects.{object_of, node_by, entries_of, tree_of}
 use Rattle.ds_image.specs.Parts.{Parts}
-use Rattle.ds_image.specs.Readings.{Reads}
+use Rattle.ds_image.specs.Readings.{ReadsParts}
 use Rattle.ds_image.specs.Sound.{IsSound, IsNamedRight}
-use Rattle.ds_image.proofs.DirNodes.{dir-rules}
-use Rattle.ds_image.proofs.TreeParts.{object-is}
+use Rattle.ds_image.proofs.FileTrees.DirNodes.{dir-rules}
+use Rattle.ds_image.proofs.FileTrees.TreeParts.{object-is}
 use Rattle.ds_plan_laws_new.specs.Entering.{subs_in}
 use Rattle.ds_plan_laws_new.specs.Making.{Leaves}
 use Rattle.ds_plan_laws_new.proofs.EnteredTrees.{dir-object}
@@ -39,7 +39,7 @@ file-is_no_dir p e named file =
     ap (λ (x : Object). is_dir x.node) (object-is p e.key.object ∙ ap (object_of p) named.there)
     ∙ ap (λ kind. is_dir (node_by p named.body kind)) (named.kind ∙ ap Some file)
 
-module _ (g : Geom) (image' : List Sector) (p q : Parts) (reads' : Reads g (slice_get image') q) (sound : IsSound p)
+module _ (g : Geom) (image' : List Sector) (p q : Parts) (reads' : ReadsParts g (slice_get image') q) (sound : IsSound p)
     (key to : Key) (dir to_dir to_dir' : Body) (e fresh : Entry) (moves : MovesParts p q key.object to.object dir to_dir to_dir' e fresh) (is_body' : IsBody to_dir') where
   abbrev pub to_entries : Entries
   to_entries = entries_of p (subs_in to_dir)

@@ -11,7 +11,7 @@ use Rattle.ds_image.specs.Objects.{entries_of, subs_of, tree_of, used_rooms}
 use Rattle.ds_image.specs.Parts.{Parts, part_at}
 use Rattle.ds_image.specs.Sound.{IsSound, IsNamedRight, rooms_used_by}
 use Rattle.ds_image.specs.SoundObjects.{AreNamesApart}
-use Rattle.ds_image.proofs.EntryNames.{find-at, get-entries}
+use Rattle.ds_image.proofs.FileTrees.EntryNames.{find-at, get-entries}
 use Rattle.ds_plan_laws_new.specs.Entering.{subs_in}
 use Rattle.ds_plan_laws_new.specs.Puts.{IsPut}
 use Rattle.ds_plan_laws_new.proofs.EnteredTrees.{dir-object}

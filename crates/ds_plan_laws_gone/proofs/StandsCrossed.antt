@@ -29,10 +29,10 @@ use Rattle.ds_image.specs.Objects.{entries_of}
 use Rattle.ds_image.specs.Owns.{IsAt}
 use Rattle.ds_image.specs.Parts.{Parts, part_at}
 use Rattle.ds_image.specs.Pending.{Pair}
-use Rattle.ds_image.specs.Readings.{Reads}
+use Rattle.ds_image.specs.Readings.{ReadsParts}
 use Rattle.ds_image.specs.Sound.{StandsFor, IsSound, sub_lists}
-use Rattle.ds_image.proofs.LaidOver.{whole-laid_over}
-use Rattle.ds_image.proofs.Sizes.{body_is}
+use Rattle.ds_image.proofs.Journaling.LaidOver.{whole-laid_over}
+use Rattle.ds_image.proofs.Spelling.Sizes.{body_is}
 use Rattle.ds_plan_laws_new.specs.Entering.{subs_in, FillsRoom}
 use Rattle.ds_image.specs.Guards.{GuardedBy}
 use Rattle.ds_plan_laws_new.specs.Making.{Leaves}
@@ -50,7 +50,7 @@ use Rattle.ds_plan_laws_gone.proofs.MovedLeaves.{have-room, leaves-moved, moved-
 use Rattle.ds_plan_laws_gone.proofs.StandsRenamed.{renamed-is_entry}
 
 -- an image with other sectors reads an entry's sub-block
-pub sub-read : (g : Geom) (image : List Sector) (p : Parts) → Reads g (slice_get image) p → (n : ℕ) (b : SubBlock) → part_at p.subs n ≡ Some b → IsSubBlock b
+pub sub-read : (g : Geom) (image : List Sector) (p : Parts) → ReadsParts g (slice_get image) p → (n : ℕ) (b : SubBlock) → part_at p.subs n ≡ Some b → IsSubBlock b
 sub-read g image p reads n b there = ((reads.subs.each n (sub-at g image p reads n b there).0 b).0 there).0
 
 -- the sectors of the redo: the sub-block that loses the entry stands before the other one, or behind it
@@ -80,7 +80,7 @@ module _ (g : Geom) (is : IsGeom g) (image : List Sector) (t : FileTree) (stands
   is-entry : IsEntry e
   is-entry = room-is_entry ready.empties.before ready.empties.room e is-sub ready.empties.used
 
-  reads-in_order : Reads g (slice_get (after false)) q
+  reads-in_order : ReadsParts g (slice_get (after false)) q
   reads-in_order =
       let at-first = sub-at g image p stands.reads n ready.empties.before ready.empties.there in
       let at-second = sub-at g image p stands.reads m fills.before fills.there in
@@ -103,8 +103,8 @@ module _ (g : Geom) (is : IsGeom g) (image : List Sector) (t : FileTree) (stands
   after-same swapped = two-laid swapped image (place_sector g (places.SubBlock n), from_sector) (place_sector g (places.SubBlock m), to_sector) [] places-apart
 
   -- the parts that the image then spells
-  pub crossed-reads : (swapped : Bool) → Reads g (slice_get (after swapped)) q
-  crossed-reads swapped = subst (λ image'. Reads g (slice_get image') q) (sym (after-same swapped)) reads-in_order
+  pub crossed-reads : (swapped : Bool) → ReadsParts g (slice_get (after swapped)) q
+  crossed-reads swapped = subst (λ image'. ReadsParts g (slice_get image') q) (sym (after-same swapped)) reads-in_order
 
   to-body : IsBody to_dir
   to-body = body_is g (slice_get image) p to.object to_dir stands.reads ready.lacks.there
@@ -127,7 +127,7 @@ module _ (g : Geom) (is : IsGeom g) (image : List Sector) (t : FileTree) (stands
   -- Whoever holds both directories holds the guards of both sub-blocks, before and after.
 
   module _ (Held : ℕ → Type 0) (held_dir : Held key.object) (held_to : Held to.object) where
-    crossed-guarded : (look : Look) (s : Parts) → Reads g look s → IsSound s → IsAt (sub_lists s) key.object ready.empties.place n → IsAt (sub_lists s) to.object fills.place m
+    crossed-guarded : (look : Look) (s : Parts) → ReadsParts g look s → IsSound s → IsAt (sub_lists s) key.object ready.empties.place n → IsAt (sub_lists s) to.object fills.place m
         → (swapped : Bool) → All (GuardedBy g look Held) (targets_of (crossed-pairs g swapped n m from_sector to_sector))
     crossed-guarded look s reads sound at at' swapped =
         let Is = GuardedBy g look Held in

@@ -32,12 +32,12 @@ use Rattle.ds_image.specs.Objects.{entries_of, subs_of, subs_by, tree_of, used_r
 use Rattle.ds_image.specs.Owns.{IsAt}
 use Rattle.ds_image.specs.Parts.{Parts, bits_in}
 use Rattle.ds_image.specs.Pending.{Pair}
-use Rattle.ds_image.specs.Readings.{Reads}
+use Rattle.ds_image.specs.Readings.{ReadsParts}
 use Rattle.ds_image.specs.Sound.{StandsFor, IsSound, sub_lists}
 use Rattle.ds_image.specs.SoundObjects.{AreNamesApart}
-use Rattle.ds_image.proofs.LaidOver.{whole-laid_over}
-use Rattle.ds_image.proofs.Places.{at-append_right}
-use Rattle.ds_image.proofs.SoundParts.{objects-of}
+use Rattle.ds_image.proofs.Journaling.LaidOver.{whole-laid_over}
+use Rattle.ds_image.proofs.Spelling.Places.{at-append_right}
+use Rattle.ds_image.proofs.Spelling.SoundParts.{objects-of}
 use Rattle.ds_plan_laws_new.specs.Entering.{subs_in}
 use Rattle.ds_image.specs.Guards.{GuardedBy}
 use Rattle.ds_plan_laws_new.specs.Making.{Leaves}
@@ -119,7 +119,7 @@ module _ (g : Geom) (is : IsGeom g) (image : List Sector) (t : FileTree) (stands
   grown-object : grown.object ≡ r
   grown-object = add.adds.object ∙ ((stands.reads.bodies.each r (body-at g image p stands.reads r to_dir ready.lacks.there).0 to_dir).0 ready.lacks.there).0
 
-  reads-in_order : Reads g (slice_get (after false)) q
+  reads-in_order : ReadsParts g (slice_get (after false)) q
   reads-in_order =
       let at-map = map-at g image p stands.reads Sb c add.marks.before add.marks.there in
       let at-body = body-at g image p stands.reads r to_dir ready.lacks.there in
@@ -144,8 +144,8 @@ module _ (g : Geom) (is : IsGeom g) (image : List Sector) (t : FileTree) (stands
   after-same swapped = two-laid swapped second (place_sector g (places.SubBlock n), from_sector) (place_sector g (places.SubBlock m), to_sector) [] places-apart
 
   -- the parts that the image then spells
-  pub crossed_grown-reads : (swapped : Bool) → Reads g (slice_get (after swapped)) q
-  crossed_grown-reads swapped = subst (λ image'. Reads g (slice_get image') q) (sym (after-same swapped)) reads-in_order
+  pub crossed_grown-reads : (swapped : Bool) → ReadsParts g (slice_get (after swapped)) q
+  crossed_grown-reads swapped = subst (λ image'. ReadsParts g (slice_get image') q) (sym (after-same swapped)) reads-in_order
 
   full : is_full (entries_of p (subs_in to_dir)) (4 * to_dir.count) ≡ true
   full =
@@ -175,7 +175,7 @@ module _ (g : Geom) (is : IsGeom g) (image : List Sector) (t : FileTree) (stands
   -- Whoever holds both directories and the cluster of the new sub-block holds the guards of all these sectors, before and after.
 
   module _ (Held : ℕ → Type 0) (held_cluster : Held (cluster_lock Sb c)) (held_dir : Held key.object) (held_to : Held r) where
-    crossed_grown-guarded : (look : Look) (s : Parts) → Reads g look s → IsSound s → IsAt (sub_lists s) key.object ready.empties.place n
+    crossed_grown-guarded : (look : Look) (s : Parts) → ReadsParts g look s → IsSound s → IsAt (sub_lists s) key.object ready.empties.place n
         → GuardedBy g look Held (place_sector g (places.SubBlock m)) → (swapped : Bool) → All (GuardedBy g look Held) (targets_of (pairs swapped))
     crossed_grown-guarded look s reads sound at by_other swapped =
         let Is = GuardedBy g look Held in

@@ -18,9 +18,9 @@ use Rattle.ds_image.specs.Logical.{laid_over}
 use Rattle.ds_image.specs.Objects.{entries_of, tree_of}
 use Rattle.ds_image.specs.Parts.{Parts}
 use Rattle.ds_image.specs.Pending.{Pair}
-use Rattle.ds_image.specs.Readings.{Reads}
+use Rattle.ds_image.specs.Readings.{ReadsParts}
 use Rattle.ds_image.specs.Sound.{StandsFor}
-use Rattle.ds_image.proofs.LaidOver.{length-laid_over, laid_over-append, whole-laid_over}
+use Rattle.ds_image.proofs.Journaling.LaidOver.{length-laid_over, laid_over-append, whole-laid_over}
 use Rattle.ds_plan_laws_new.specs.Entering.{subs_in}
 use Rattle.ds_plan_laws_new.specs.Making.{Leaves}
 use Rattle.ds_plan_laws_new.proofs.EnteredTrees.{dir-object}
@@ -75,7 +75,7 @@ module _ (g : Geom) (is : IsGeom g) (image : List Sector) (t : FileTree) (stands
   is-entry = room-is_entry ready.empties.before ready.empties.room e is-sub ready.empties.used
 
   -- the parts that the image then spells
-  pub gone-reads : Reads g (slice_get after) q
+  pub gone-reads : ReadsParts g (slice_get after) q
   gone-reads =
       let changes = clears-change g is image p stands.reads stands.sound.maps writes (given_up p o old) ready.clears in
       let one = changes-read g is image p stands.reads stands.sound.maps writes (IsClearedOf (given_up p o old)) changes in
@@ -84,7 +84,7 @@ module _ (g : Geom) (is : IsGeom g) (image : List Sector) (t : FileTree) (stands
       let two = reads-body g first (with_all_maps p writes) o new body_sector is at-body.0 (omega (arith, at-body.1, length-first)) ready.ends.object ready.ends.is_body spells_body one in
       let three = reads-sub g second (record (with_all_maps p writes) { bodies = slice_set (with_all_maps p writes).bodies o (Some new) }) n block block_sector is at-sub.0
       (omega (arith, at-sub.1, length-second)) (room-is_sub ready.empties.before block ready.empties.room None is-sub tt ready.empties.emptied) spells_block two in
-      subst (λ sectors. Reads g (slice_get sectors) q)
+      subst (λ sectors. ReadsParts g (slice_get sectors) q)
       (sym (laid_over-append image (map_pairs g writes) ((place_sector g (places.Body o), body_sector) ∷ (place_sector g (places.SubBlock n), block_sector) ∷ []))) three
 
   pub goes : GoesFrom p q key.object dir e old new

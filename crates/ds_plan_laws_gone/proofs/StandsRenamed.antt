@@ -27,18 +27,18 @@ use Rattle.ds_image.specs.Objects.{object_of, entries_of, rooms_in, subs_of, sub
 use Rattle.ds_image.specs.Owns.{IsAt}
 use Rattle.ds_image.specs.Parts.{Parts, part_at}
 use Rattle.ds_image.specs.Pending.{Pair}
-use Rattle.ds_image.specs.Readings.{Reads}
+use Rattle.ds_image.specs.Readings.{ReadsParts}
 use Rattle.ds_image.specs.Sound.{StandsFor, IsSound, IsNamedRight, sub_lists}
-use Rattle.ds_image.proofs.LaidOver.{whole-laid_over}
-use Rattle.ds_image.proofs.Sizes.{part_within}
-use Rattle.ds_image.proofs.SoundParts.{objects-of}
-use Rattle.ds_image.proofs.TreeParts.{object-is}
+use Rattle.ds_image.proofs.Journaling.LaidOver.{whole-laid_over}
+use Rattle.ds_image.proofs.Spelling.Sizes.{part_within}
+use Rattle.ds_image.proofs.Spelling.SoundParts.{objects-of}
+use Rattle.ds_image.proofs.FileTrees.TreeParts.{object-is}
 use Rattle.ds_plan_laws_new.specs.Entering.{subs_in}
 use Rattle.ds_image.specs.Guards.{GuardedBy}
 use Rattle.ds_plan_laws_new.specs.Making.{Leaves}
 use Rattle.ds_plan_laws_new.specs.Puts.{IsPut}
 use Rattle.ds_plan_laws_new.proofs.EnteredTrees.{dir-object}
-use Rattle.ds_image.proofs.LaidOver.{slice_get-set_same}
+use Rattle.ds_image.proofs.Journaling.LaidOver.{slice_get-set_same}
 use Rattle.ds_plan_laws_new.proofs.Frames.{reads-sub}
 use Rattle.ds_plan_laws_new.proofs.Granting.{key-node}
 use Rattle.ds_image.proofs.SectorGuards.{guard-sub_listed}
@@ -178,7 +178,7 @@ module _ (g : Geom) (is : IsGeom g) (image : List Sector) (t : FileTree) (stands
   is-entry = room-is_entry ready.rewrites.before ready.rewrites.room e is-sub ready.rewrites.used
 
   -- the parts that the image then spells
-  pub renamed-reads : Reads g (slice_get after) q
+  pub renamed-reads : ReadsParts g (slice_get after) q
   renamed-reads =
       let at-sub = sub-at g image p stands.reads n ready.rewrites.before ready.rewrites.there in
       reads-sub g image p n block block_sector is at-sub.0 at-sub.1
@@ -225,7 +225,7 @@ module _ (g : Geom) (is : IsGeom g) (image : List Sector) (t : FileTree) (stands
   -- Whoever holds the directory holds the guard of the sub-block, before and after.
 
   module _ (Held : ℕ → Type 0) (held_dir : Held key.object) where
-    renamed-guarded : (look : Look) (s : Parts) → Reads g look s → IsSound s → IsAt (sub_lists s) d ready.rewrites.place n → All (GuardedBy g look Held) (targets_of renamed-pairs)
+    renamed-guarded : (look : Look) (s : Parts) → ReadsParts g look s → IsSound s → IsAt (sub_lists s) d ready.rewrites.place n → All (GuardedBy g look Held) (targets_of renamed-pairs)
     renamed-guarded look s reads sound at =
         let sub = (sub-at g image p stands.reads n ready.rewrites.before ready.rewrites.there).0 in
         All-cons (GuardedBy g look Held) (place_sector g (places.SubBlock n)) []

@@ -8,7 +8,7 @@ use Rattle.ds_bytes.specs.Fields.{AllBelow, zeros}
 use Rattle.ds_fd.specs.Body.{IsBody, links_of, most_count, least_birth, addresses_used}
 use Rattle.ds_fd.specs.declared.body.Body.{Body}
 use Rattle.ds_plan_laws_new.specs.Bodies.{IsEmptyBody, IsGrownBody}
-use Rattle.ds_image.proofs.FreshVolume.{no_addresses}
+use Rattle.ds_image.proofs.NewVolumes.FreshVolume.{no_addresses}
 
 none-used : (kind : NodeKind) → addresses_used (Some kind) 0 ≡ 0
 none-used kinds.Dir = refl

@@ -14,7 +14,7 @@ use Rattle.ds_tree.specs.Steps.{Makes, rooms_with_one_more}
 use Rattle.ds_tree.specs.Trees.{empty_node}
 use Rattle.ds_image.specs.Objects.{node_by, object_of, tree_of, entries_of, used_rooms}
 use Rattle.ds_image.specs.Parts.{Parts, part_at}
-use Rattle.ds_image.proofs.TreeParts.{object-is, objects-are}
+use Rattle.ds_image.proofs.FileTrees.TreeParts.{object-is, objects-are}
 use Rattle.ds_plan_laws_new.specs.Entering.{subs_in}
 use Rattle.ds_plan_laws_new.proofs.Entered.{EntersBodies, EntersParts, is_new, is_dir, is_other, where-is, apart, d-within, o-within, count-same}
 use Rattle.ds_plan_laws_new.proofs.Names.{by_name-put}

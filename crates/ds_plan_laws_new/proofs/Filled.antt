@@ -14,11 +14,11 @@ use Rattle.ds_image.specs.Looks.{Look}
 use Rattle.ds_image.specs.Objects.{rooms_in, subs_of}
 use Rattle.ds_image.specs.Owns.{Owns}
 use Rattle.ds_image.specs.Parts.{Parts, part_at, AllSpelled, maps_of, bits_in}
-use Rattle.ds_image.specs.Readings.{Reads}
+use Rattle.ds_image.specs.Readings.{ReadsParts}
 use Rattle.ds_image.specs.Sound.{IsSound, sub_lists}
-use Rattle.ds_image.proofs.Owning.{owns-alike}
-use Rattle.ds_image.proofs.Sizes.{part_within}
-use Rattle.ds_image.proofs.SoundParts.{each_kind, objects-of}
+use Rattle.ds_image.proofs.Ownership.Owning.{owns-alike}
+use Rattle.ds_image.proofs.Spelling.Sizes.{part_within}
+use Rattle.ds_image.proofs.Spelling.SoundParts.{each_kind, objects-of}
 use Rattle.ds_plan_laws_new.specs.Beginning.{SetsBit, Begins}
 use Rattle.ds_plan_laws_new.specs.Entering.{subs_in, LacksName, FillsRoom}
 use Rattle.ds_plan_laws_new.specs.Puts.{IsPut}
@@ -29,7 +29,7 @@ use Rattle.ds_plan_laws_new.proofs.Puts.{in_use, put-room}
 use Rattle.ds_plan_laws_new.specs.ChangedParts.{filled}
 use Rattle.ds_plan_laws_new.proofs.Rooms.{used_in, used-same, used-put}
 
-module _ (g : Geom) (look : Look) (p : Parts) (reads : Reads g look p) (sound : IsSound p)
+module _ (g : Geom) (look : Look) (p : Parts) (reads : ReadsParts g look p) (sound : IsSound p)
     (d o n c it : ℕ) (dir new : Body) (e : Entry) (map : Bitmap) (block : SubBlock)
     (is_item : c * per_cluster g Fd + it ≡ o) (marks : SetsBit p Fd c it true map) (begins : Begins p o e new)
     (lacks : LacksName p d dir e.name) (fills : FillsRoom p dir n e block) where

@@ -18,13 +18,13 @@ use Rattle.ds_dir.specs.declared.sub_block.SubBlock.{SubBlock}
 use Rattle.ds_fd.specs.Body.{IsBody, links_of}
 use Rattle.ds_fd.specs.declared.body.Body.{Body}
 use Rattle.ds_tree.specs.Nodes.{root_key}
-use Rattle.ds_image.proofs.FreshLists.{made_at}
-use Rattle.ds_image.proofs.FreshParts.{fresh_parts}
+use Rattle.ds_image.proofs.NewVolumes.FreshLists.{made_at}
+use Rattle.ds_image.proofs.NewVolumes.FreshParts.{fresh_parts}
 use Rattle.ds_image.specs.Formatted.{fresh_body, fresh_bits}
 use Rattle.ds_image.specs.Parts.{Parts}
 use Rattle.ds_plan_laws_new.specs.Making.{ReadyToMake, ReadyToGrow}
 use Rattle.ds_plan_laws_new.proofs.Bodies.{empty-is_body, grown-is_body}
-use Rattle.ds_image.proofs.LaidOver.{slice_get-set_other}
+use Rattle.ds_image.proofs.Journaling.LaidOver.{slice_get-set_other}
 
 module _ (g : Geom) (is : IsGeom g) (two : 2 ≤ per_cluster g Fd) (name : List ℕ) (named : IsName name) (kind : NodeKind) where
   abbrev p : Parts

@@ -26,14 +26,14 @@ use Rattle.ds_ptr.specs.PtrBlock.{IsPtrBlock, ptr_bytes}
 use Rattle.ds_ptr.specs.declared.ptr_block.PtrBlock.{PtrBlock}
 use Rattle.ds_image.specs.Looks.{Look, HasBytes}
 use Rattle.ds_image.specs.Parts.{Parts, part_at, maps_of}
-use Rattle.ds_image.specs.Readings.{SpellsBody, SpellsBits, SpellsSub, SpellsPtr, IsReading, Reads}
-use Rattle.ds_image.proofs.Decoded.{decoded_as}
-use Rattle.ds_image.proofs.FreshLists.{decoded_one}
-use Rattle.ds_image.proofs.LaidOver.{slice_get-set_same, slice_get-set_other}
+use Rattle.ds_image.specs.Readings.{SpellsBody, SpellsBits, SpellsSub, SpellsPtr, IsReading, ReadsParts}
+use Rattle.ds_image.proofs.Spelling.Decoded.{decoded_as}
+use Rattle.ds_image.proofs.NewVolumes.FreshLists.{decoded_one}
+use Rattle.ds_image.proofs.Journaling.LaidOver.{slice_get-set_same, slice_get-set_other}
 use Rattle.ds_image.proofs.SameSectors.{reading-as, body-as, bits-as, sub-as, ptr-as}
-use Rattle.ds_image.proofs.SoundParts.{each_kind}
-use Rattle.ds_image.proofs.FreshVolume.{same_bytes}
-use Rattle.ds_image.proofs.Readings.{few_clusters}
+use Rattle.ds_image.proofs.Spelling.SoundParts.{each_kind}
+use Rattle.ds_image.proofs.NewVolumes.FreshVolume.{same_bytes}
+use Rattle.ds_image.proofs.Spelling.Readings.{few_clusters}
 use Rattle.ds_plan_laws_new.specs.Changed.{with_maps}
 
 -- Readings of which one part was put
@@ -100,8 +100,8 @@ module _ (g : Geom) (is : IsGeom g) (image : List Sector) (at : Place) (s : Sect
 
 -- the body of a descriptor was written
 pub reads-body : (g : Geom) (image : List Sector) (p : Parts) (o : ℕ) (b : Body) (s : Sector) → IsGeom g → o < items_of g Fd
-    → place_sector g (places.Body o) < length image → b.object ≡ o → IsBody b → s.bytes ≡ body_bytes b → Reads g (slice_get image) p
-    → Reads g (slice_get (slice_set image (place_sector g (places.Body o)) s)) (record p { bodies = slice_set p.bodies o (Some b) })
+    → place_sector g (places.Body o) < length image → b.object ≡ o → IsBody b → s.bytes ≡ body_bytes b → ReadsParts g (slice_get image) p
+    → ReadsParts g (slice_get (slice_set image (place_sector g (places.Body o)) s)) (record p { bodies = slice_set p.bodies o (Some b) })
 reads-body g image p o b s is l within number body spelled reads =
     let at = places.Body o in
     let q : Parts = record p { bodies = slice_set p.bodies o (Some b) } in
@@ -123,8 +123,8 @@ reads-body g image p o b s is l within number body spelled reads =
 
 -- a sub-block was written
 pub reads-sub : (g : Geom) (image : List Sector) (p : Parts) (n : ℕ) (b : SubBlock) (s : Sector) → IsGeom g → n < items_of g Sb
-    → place_sector g (places.SubBlock n) < length image → IsSubBlock b → s.bytes ≡ sub_bytes b → Reads g (slice_get image) p
-    → Reads g (slice_get (slice_set image (place_sector g (places.SubBlock n)) s)) (record p { subs = slice_set p.subs n (Some b) })
+    → place_sector g (places.SubBlock n) < length image → IsSubBlock b → s.bytes ≡ sub_bytes b → ReadsParts g (slice_get image) p
+    → ReadsParts g (slice_get (slice_set image (place_sector g (places.SubBlock n)) s)) (record p { subs = slice_set p.subs n (Some b) })
 reads-sub g image p n b s is l within block spelled reads =
     let at = places.SubBlock n in
     let q : Parts = record p { subs = slice_set p.subs n (Some b) } in
@@ -146,8 +146,8 @@ reads-sub g image p n b s is l within block spelled reads =
 
 -- a pointer block was written
 pub reads-ptr : (g : Geom) (image : List Sector) (p : Parts) (n : ℕ) (b : PtrBlock) (s : Sector) → IsGeom g → n < items_of g Pb
-    → place_sector g (places.PtrBlock n) < length image → IsPtrBlock b → s.bytes ≡ ptr_bytes b → Reads g (slice_get image) p
-    → Reads g (slice_get (slice_set image (place_sector g (places.PtrBlock n)) s)) (record p { ptrs = slice_set p.ptrs n (Some b) })
+    → place_sector g (places.PtrBlock n) < length image → IsPtrBlock b → s.bytes ≡ ptr_bytes b → ReadsParts g (slice_get image) p
+    → ReadsParts g (slice_get (slice_set image (place_sector g (places.PtrBlock n)) s)) (record p { ptrs = slice_set p.ptrs n (Some b) })
 reads-ptr g image p n b s is l within block spelled reads =
     let at = places.PtrBlock n in
     let q : Parts = record p { ptrs = slice_set p.ptrs n (Some b) } in
@@ -196,8 +196,8 @@ ptrs-with_maps p Fb maps = refl
 
 -- the bitmap of a cluster was written
 pub reads-map : (g : Geom) (image : List Sector) (p : Parts) (kind : Kind) (c : ℕ) (b : Bitmap) (s : Sector) → IsGeom g → c < clusters_of g kind
-    → place_sector g (places.Bitmap kind c) < length image → IsBits g kind c b → s.bytes ≡ bits_bytes b → Reads g (slice_get image) p
-    → Reads g (slice_get (slice_set image (place_sector g (places.Bitmap kind c)) s)) (with_maps p kind (slice_set (maps_of p kind) c (Some b)))
+    → place_sector g (places.Bitmap kind c) < length image → IsBits g kind c b → s.bytes ≡ bits_bytes b → ReadsParts g (slice_get image) p
+    → ReadsParts g (slice_get (slice_set image (place_sector g (places.Bitmap kind c)) s)) (with_maps p kind (slice_set (maps_of p kind) c (Some b)))
 reads-map g image p kind c b s is l within bits spelled reads =
     let at = places.Bitmap kind c in
     let maps = slice_set (maps_of p kind) c (Some b) in

@@ -16,12 +16,12 @@ use Rattle.ds_image.specs.Looks.{Look}
 use Rattle.ds_image.specs.Objects.{subs_by, ptrs_by, blocks_by, node_by, object_of, tree_of, subs_of, ptrs_of, blocks_of, is_used}
 use Rattle.ds_image.specs.Owns.{Owns}
 use Rattle.ds_image.specs.Parts.{Parts, maps_of, bits_in}
-use Rattle.ds_image.specs.Readings.{Reads}
+use Rattle.ds_image.specs.Readings.{ReadsParts}
 use Rattle.ds_image.specs.Sound.{IsSound}
-use Rattle.ds_image.proofs.Listed.{bits_length}
-use Rattle.ds_image.proofs.OwnedCounts.{marked_count, used_are}
-use Rattle.ds_image.proofs.Sizes.{body_is, file_size, many_pointers}
-use Rattle.ds_image.proofs.TreeParts.{objects-are}
+use Rattle.ds_image.proofs.Ownership.Listed.{bits_length}
+use Rattle.ds_image.proofs.Ownership.OwnedCounts.{marked_count, used_are}
+use Rattle.ds_image.proofs.Spelling.Sizes.{body_is, file_size, many_pointers}
+use Rattle.ds_image.proofs.FileTrees.TreeParts.{objects-are}
 use Rattle.ds_image.proofs.Bits.{clear_count, clear-and_marked, clear-some}
 
 -- sums whose terms are the lengths of lists
@@ -75,7 +75,7 @@ ones p (b ∷ bodies) =
       ones p bodies,
     )
 
-module _ (g : Geom) (look : Look) (p : Parts) (reads : Reads g look p) (sound : IsSound p) where
+module _ (g : Geom) (look : Look) (p : Parts) (reads : ReadsParts g look p) (sound : IsSound p) where
   is-body : (i : ℕ) (b : Body) → slice_get p.bodies i ≡ Some (Some b) → IsBody b
   is-body i b at = body_is g look p i b reads (get_or_from_slice_get p.bodies i (Some b) None at)
 

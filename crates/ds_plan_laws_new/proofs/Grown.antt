@@ -18,12 +18,12 @@ use Rattle.ds_image.specs.Looks.{Look}
 use Rattle.ds_image.specs.Objects.{rooms_in, subs_of, used_rooms}
 use Rattle.ds_image.specs.Owns.{Owns, IsAt, list_of}
 use Rattle.ds_image.specs.Parts.{Parts, part_at, AllSpelled, maps_of, bits_in}
-use Rattle.ds_image.specs.Readings.{Reads}
+use Rattle.ds_image.specs.Readings.{ReadsParts}
 use Rattle.ds_image.specs.Sound.{IsSound, sub_lists}
-use Rattle.ds_image.proofs.Listed.{bits_length}
-use Rattle.ds_image.proofs.Owning.{owns-alike, owns-grown}
-use Rattle.ds_image.proofs.Sizes.{body_is}
-use Rattle.ds_image.proofs.SoundParts.{each_kind, list-is, objects-of}
+use Rattle.ds_image.proofs.Ownership.Listed.{bits_length}
+use Rattle.ds_image.proofs.Ownership.Owning.{owns-alike, owns-grown}
+use Rattle.ds_image.proofs.Spelling.Sizes.{body_is}
+use Rattle.ds_image.proofs.Spelling.SoundParts.{each_kind, list-is, objects-of}
 use Rattle.ds_plan_laws_new.specs.Beginning.{SetsBit, Begins}
 use Rattle.ds_plan_laws_new.specs.Entering.{subs_in, LacksName, AddsRooms}
 use Rattle.ds_plan_laws_new.specs.Puts.{IsPut}
@@ -34,7 +34,7 @@ use Rattle.ds_plan_laws_new.proofs.Puts.{in_use}
 use Rattle.ds_plan_laws_new.specs.ChangedParts.{grown_with}
 use Rattle.ds_plan_laws_new.proofs.Rooms.{used_in, used-same, used-added}
 
-module _ (g : Geom) (look : Look) (p : Parts) (reads : Reads g look p) (sound : IsSound p)
+module _ (g : Geom) (look : Look) (p : Parts) (reads : ReadsParts g look p) (sound : IsSound p)
     (d o n c it c' it' : ℕ) (dir grown new : Body) (e : Entry) (map map' : Bitmap) (block : SubBlock)
     (is_item : c * per_cluster g Fd + it ≡ o) (marks : SetsBit p Fd c it true map)
     (is_sub : c' * per_cluster g Sb + it' ≡ n) (marks' : SetsBit p Sb c' it' true map') (begins : Begins p o e new)

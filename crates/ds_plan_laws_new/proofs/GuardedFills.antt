@@ -21,7 +21,7 @@ use Rattle.ds_image.specs.Asking.{targets_of}
 use Rattle.ds_image.specs.Looks.{Look}
 use Rattle.ds_image.specs.Owns.{IsAt}
 use Rattle.ds_image.specs.Parts.{Parts}
-use Rattle.ds_image.specs.Readings.{Reads}
+use Rattle.ds_image.specs.Readings.{ReadsParts}
 use Rattle.ds_image.specs.Sound.{StandsFor, IsSound, sub_lists}
 use Rattle.ds_plan_laws_new.specs.Entering.{FillsRoom}
 use Rattle.ds_image.specs.Guards.{GuardedBy}
@@ -47,7 +47,7 @@ module _ (g : Geom) (is : IsGeom g) (image : List Sector) (t : FileTree) (stands
   abbrev filled-after : List Sector
   filled-after = fillings.after g is image t stands key dir o e new c map n block make fills map_sector new_sector block_sector spells_map spells_new spells_block
 
-  filled-guarded : (look : Look) (q : Parts) → Reads g look q → IsSound q → IsAt (sub_lists q) key.object fills.place n
+  filled-guarded : (look : Look) (q : Parts) → ReadsParts g look q → IsSound q → IsAt (sub_lists q) key.object fills.place n
       → All (GuardedBy g look Held) (targets_of (filled_pairs g c o n map_sector new_sector block_sector))
   filled-guarded look q reads sound at =
       let Is = GuardedBy g look Held in

@@ -17,12 +17,12 @@ use Rattle.ds_fd.specs.declared.body.Body.{Body}
 use Rattle.ds_layout.specs.Places.{cluster_lock, place_sector}
 use Rattle.ds_layout.specs.declared.places.Place.TheVariants as places
 use Rattle.ds_tree.specs.Nodes.{FileTree}
-use Rattle.ds_image.proofs.Places.{at-append_right}
+use Rattle.ds_image.proofs.Spelling.Places.{at-append_right}
 use Rattle.ds_image.specs.Asking.{targets_of}
 use Rattle.ds_image.specs.Looks.{Look}
 use Rattle.ds_image.specs.Parts.{Parts}
 use Rattle.ds_image.specs.Pending.{Pair}
-use Rattle.ds_image.specs.Readings.{Reads}
+use Rattle.ds_image.specs.Readings.{ReadsParts}
 use Rattle.ds_image.specs.Sound.{StandsFor}
 use Rattle.ds_plan_laws_new.specs.Entering.{subs_in}
 use Rattle.ds_image.specs.Guards.{GuardedBy}
@@ -57,7 +57,7 @@ module _ (g : Geom) (is : IsGeom g) (image : List Sector) (t : FileTree) (stands
   sub-within = n-within g is image t stands key dir o e new c map n grown c' sub_map block make grow map_sector sub_map_sector dir_sector new_sector block_sector spells_map spells_sub_map spells_dir spells_new spells_block
 
   -- all but the sub-block are guarded alike before and after
-  grown-guarded : (look : Look) (q : Parts) → Reads g look q → GuardedBy g look Held (place_sector g (places.SubBlock n)) → (swapped : Bool)
+  grown-guarded : (look : Look) (q : Parts) → ReadsParts g look q → GuardedBy g look Held (place_sector g (places.SubBlock n)) → (swapped : Bool)
       → All (GuardedBy g look Held) (targets_of (pairs swapped))
   grown-guarded look q reads sub_guarded swapped =
       let Is = GuardedBy g look Held in

@@ -7,7 +7,7 @@ use Rattle.ds_image.specs.Objects.{subs_by, subs_of}
 use Rattle.ds_image.specs.Owns.{Owns, IsAt, bit}
 use Rattle.ds_image.specs.Parts.{Parts, part_at}
 use Rattle.ds_image.specs.Sound.{sub_lists}
-use Rattle.ds_image.proofs.SoundParts.{list-is}
+use Rattle.ds_image.proofs.Spelling.SoundParts.{list-is}
 use Rattle.ds_plan_laws_new.specs.Entering.{subs_in}
 
 pub listed-by : (p : Parts) (k i n : ℕ) → slice_get (subs_of (part_at p.bodies k)) i ≡ Some n → IsAt (sub_lists p) k i n

@@ -22,9 +22,9 @@ use Rattle.ds_tree.specs.WellFormed.{IsTree}
 use Rattle.ds_tree.specs.declared.calls.TreeReply.TheVariants.{Made}
 use Rattle.ds_image.specs.Objects.{entries_of, is_used, tree_of}
 use Rattle.ds_image.specs.Parts.{Parts, bits_in}
-use Rattle.ds_image.specs.Readings.{Reads}
+use Rattle.ds_image.specs.Readings.{ReadsParts}
 use Rattle.ds_image.specs.Sound.{IsSound}
-use Rattle.ds_image.proofs.DirNodes.{dir-rules}
+use Rattle.ds_image.proofs.FileTrees.DirNodes.{dir-rules}
 use Rattle.ds_plan_laws_new.specs.Entering.{subs_in, make_call}
 use Rattle.ds_plan_laws_new.specs.Making.{Leaves}
 use Rattle.ds_plan_laws_new.proofs.Entered.{EntersBodies, EntersParts, o-within, entered-sound}
@@ -32,7 +32,7 @@ use Rattle.ds_plan_laws_new.proofs.EnteredTrees.{dir-object, put-entries, entere
 use Rattle.ds_plan_laws_new.proofs.FreeItems.{free-some}
 use Rattle.ds_plan_laws_new.proofs.Granting.{key-node, make-does, make-is_tree}
 
-module _ (g : Geom) (image image' : List Sector) (p q : Parts) (reads : Reads g (slice_get image) p) (reads' : Reads g (slice_get image') q) (sound : IsSound p)
+module _ (g : Geom) (image image' : List Sector) (p q : Parts) (reads : ReadsParts g (slice_get image) p) (reads' : ReadsParts g (slice_get image') q) (sound : IsSound p)
     (key : Key) (o : ℕ) (dir dir' new : Body) (e : Entry) (en : EntersParts p q key.object o dir dir' new e) (is_body' : IsBody dir') where
   in-bodies : EntersBodies p q key.object o dir dir' new e
   in-bodies = en.enters

@@ -13,7 +13,7 @@ use Rattle.std.proofs.lemmas.Map.Text.{is_eq-slice_cmp}
 use Rattle.std.proofs.lemmas.Slice.Eq.{bytes_eq-Decides}
 use Rattle.ds_dir.specs.declared.sub_block.Entry.{Entry}
 use Rattle.ds_tree.specs.Nodes.{Entries}
-use Rattle.ds_image.proofs.EntryNames.{pair_of, pairs, get-entries}
+use Rattle.ds_image.proofs.FileTrees.EntryNames.{pair_of, pairs, get-entries}
 use Rattle.ds_image.specs.SoundObjects.{AreNamesApart}
 use Rattle.ds_plan_laws_new.proofs.Puts.{put-mapped, put-permutation}
 use Rattle.ds_plan_laws_new.specs.Puts.{IsPut}

@@ -20,15 +20,15 @@ use Rattle.ds_layout.specs.Places.{place_sector}
 use Rattle.ds_layout.specs.declared.places.Place.TheVariants as places
 use Rattle.ds_image.specs.Looks.{HasBytes}
 use Rattle.ds_image.specs.Parts.{Parts, part_at, maps_of}
-use Rattle.ds_image.specs.Readings.{Reads}
-use Rattle.ds_image.proofs.Sizes.{part_within}
+use Rattle.ds_image.specs.Readings.{ReadsParts}
+use Rattle.ds_image.proofs.Spelling.Sizes.{part_within}
 use Rattle.ds_plan_laws_new.specs.Beginning.{SetsBit, Begins}
 use Rattle.ds_plan_laws_new.specs.Entering.{FillsRoom}
 
 bytes-within : (image : List Sector) (at : ℕ) (bytes : List ℕ) → HasBytes (slice_get image) at bytes → at < length image
 bytes-within image at bytes has = slice_get_within image at has.0 has.1
 
-module _ (g : Geom) (image : List Sector) (p : Parts) (reads : Reads g (slice_get image) p) where
+module _ (g : Geom) (image : List Sector) (p : Parts) (reads : ReadsParts g (slice_get image) p) where
   -- a part that is spelled has its sector in the image, and its number is one of the volume
   pub body-at : (o : ℕ) (b : Body) → part_at p.bodies o ≡ Some b → (o < items_of g Fd) × (place_sector g (places.Body o) < length image)
   body-at o b there =

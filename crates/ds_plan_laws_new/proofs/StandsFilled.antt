@@ -22,10 +22,10 @@ use Rattle.ds_tree.specs.declared.calls.TreeReply.TheVariants.{Made}
 use Rattle.ds_image.specs.Logical.{laid_over}
 use Rattle.ds_image.specs.Objects.{entries_of}
 use Rattle.ds_image.specs.Parts.{Parts}
-use Rattle.ds_image.specs.Readings.{Reads}
+use Rattle.ds_image.specs.Readings.{ReadsParts}
 use Rattle.ds_image.specs.Sound.{StandsFor}
-use Rattle.ds_image.proofs.LaidOver.{whole-laid_over}
-use Rattle.ds_image.proofs.Sizes.{body_is}
+use Rattle.ds_image.proofs.Journaling.LaidOver.{whole-laid_over}
+use Rattle.ds_image.proofs.Spelling.Sizes.{body_is}
 use Rattle.ds_plan_laws_new.specs.Entering.{subs_in, FillsRoom, make_call}
 use Rattle.ds_plan_laws_new.specs.Making.{ReadyToMake, Leaves}
 use Rattle.ds_plan_laws_new.proofs.Entered.{EntersParts}
@@ -60,7 +60,7 @@ module _ (g : Geom) (is : IsGeom g) (image : List Sector) (t : FileTree) (stands
   length-second = length-set first (place_sector g (places.Body o)) new_sector ∙ length-first
 
   -- the parts that the image then spells
-  pub filled-reads : Reads g (slice_get after) (filled p c o n map new block)
+  pub filled-reads : ReadsParts g (slice_get after) (filled p c o n map new block)
   filled-reads =
       let at-map = map-at g image p stands.reads Fd c make.marks.before make.marks.there in
       let at-body = body-at g image p stands.reads o make.begins.before make.begins.there in

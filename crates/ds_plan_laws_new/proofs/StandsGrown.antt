@@ -26,11 +26,11 @@ use Rattle.ds_image.specs.Logical.{laid_over}
 use Rattle.ds_image.specs.Objects.{subs_by, subs_of, entries_of, used_rooms, tree_of}
 use Rattle.ds_image.specs.Parts.{Parts, bits_in}
 use Rattle.ds_image.specs.Pending.{Pair}
-use Rattle.ds_image.specs.Readings.{Reads}
+use Rattle.ds_image.specs.Readings.{ReadsParts}
 use Rattle.ds_image.specs.Sound.{StandsFor}
 use Rattle.ds_image.specs.SoundObjects.{AreNamesApart}
-use Rattle.ds_image.proofs.LaidOver.{whole-laid_over}
-use Rattle.ds_image.proofs.SoundParts.{objects-of}
+use Rattle.ds_image.proofs.Journaling.LaidOver.{whole-laid_over}
+use Rattle.ds_image.proofs.Spelling.SoundParts.{objects-of}
 use Rattle.ds_plan_laws_new.specs.Entering.{subs_in, make_call}
 use Rattle.ds_plan_laws_new.specs.Making.{ReadyToMake, ReadyToGrow, Leaves}
 use Rattle.ds_image.proofs.Bits.{bits-at}
@@ -99,7 +99,7 @@ module _ (g : Geom) (is : IsGeom g) (image : List Sector) (t : FileTree) (stands
   pub grown-object : grown.object ≡ key.object
   grown-object = grow.adds.object ∙ ((stands.reads.bodies.each key.object (body-at g image p stands.reads key.object dir make.lacks.there).0 dir).0 make.lacks.there).0
 
-  reads-in_order : Reads g (slice_get (after false)) parts-after
+  reads-in_order : ReadsParts g (slice_get (after false)) parts-after
   reads-in_order =
       let at-map = map-at g image p stands.reads Fd c make.marks.before make.marks.there in
       let at-sub_map = map-at g image p stands.reads Sb c' grow.marks.before grow.marks.there in
@@ -129,8 +129,8 @@ module _ (g : Geom) (is : IsGeom g) (image : List Sector) (t : FileTree) (stands
       ((place_sector g (places.SubBlock n), block_sector) ∷ []) bodies-apart
 
   -- the parts that the image then spells
-  pub grown-reads : (swapped : Bool) → Reads g (slice_get (after swapped)) parts-after
-  grown-reads swapped = subst (λ image'. Reads g (slice_get image') parts-after) (sym (after-same swapped)) reads-in_order
+  pub grown-reads : (swapped : Bool) → ReadsParts g (slice_get (after swapped)) parts-after
+  grown-reads swapped = subst (λ image'. ReadsParts g (slice_get image') parts-after) (sym (after-same swapped)) reads-in_order
 
   full : is_full (entries_of p (subs_in dir)) (4 * dir.count) ≡ true
   full =

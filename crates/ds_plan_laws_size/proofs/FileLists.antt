@@ -6,7 +6,7 @@ use Rattle.ds_image.specs.Objects.{ptrs_by, blocks_by, subs_by, tail_by, ptrs_of
 use Rattle.ds_image.specs.Owns.{list_of}
 use Rattle.ds_image.specs.Parts.{Parts, part_at}
 use Rattle.ds_image.specs.Sound.{ptr_lists, block_lists}
-use Rattle.ds_image.proofs.SoundParts.{list-is}
+use Rattle.ds_image.proofs.Spelling.SoundParts.{list-is}
 use Rattle.ds_plan_laws_size.specs.Pages.{ptrs_in, blocks_in}
 
 module _ (p : Parts) (o : ℕ) (b : Body) (there : part_at p.bodies o ≡ Some b) (file : b.kind ≡ Some kinds.File) where

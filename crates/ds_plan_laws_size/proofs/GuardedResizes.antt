@@ -15,9 +15,9 @@ use Rattle.ds_image.specs.Logical.{laid_over}
 use Rattle.ds_image.specs.Looks.{Look}
 use Rattle.ds_image.specs.Parts.{Parts}
 use Rattle.ds_image.specs.Pending.{Pair}
-use Rattle.ds_image.specs.Readings.{Reads}
+use Rattle.ds_image.specs.Readings.{ReadsParts}
 use Rattle.ds_image.specs.Sound.{StandsFor, IsSound}
-use Rattle.ds_image.proofs.Places.{at-append, Contains-from_at}
+use Rattle.ds_image.proofs.Spelling.Places.{at-append, Contains-from_at}
 use Rattle.ds_layout.specs.Places.{cluster_lock, place_sector}
 use Rattle.ds_layout.specs.declared.places.Place.TheVariants as places
 use Rattle.ds_ptr.specs.declared.ptr_block.PtrBlock.{PtrBlock}
@@ -86,7 +86,7 @@ module _ (g : Geom) (is : IsGeom g) (image : List Sector) (t : FileTree) (stands
   within : (k n : ℕ) → slice_get (ptrs_in b') k ≡ Some n → n < items_of g Pb
   within k n at = pointer-within g look p stands.reads stands.sound key.object b b' size pointers ready.body ready.lists ready.pointers_free k n at
 
-  guarded : (look : Look) (r : Parts) → Reads g look r
+  guarded : (look : Look) (r : Parts) → ReadsParts g look r
       → ((i : ℕ) (x : ℕ × PtrBlock) → slice_get ptrs i ≡ Some x → GuardedBy g look Held (place_sector g (places.PtrBlock x.0)))
       → All (GuardedBy g look Held) (targets_of pairs)
   guarded look r reads pointer =

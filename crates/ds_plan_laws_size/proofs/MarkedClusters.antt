@@ -13,10 +13,10 @@ use Rattle.ds_image.specs.Looks.{Look}
 use Rattle.ds_image.specs.Owned.{CanMark}
 use Rattle.ds_image.specs.Owns.{bit}
 use Rattle.ds_image.specs.Parts.{Parts, part_at, AllSpelled, maps_of, bits_in}
-use Rattle.ds_image.specs.Readings.{Reads, SpellsBits, IsReading}
-use Rattle.ds_image.proofs.Listed.{bits_length}
-use Rattle.ds_image.proofs.Places.{at-from_Contains}
-use Rattle.ds_image.proofs.Sizes.{part_within}
+use Rattle.ds_image.specs.Readings.{ReadsParts, SpellsBits, IsReading}
+use Rattle.ds_image.proofs.Ownership.Listed.{bits_length}
+use Rattle.ds_image.proofs.Spelling.Places.{at-from_Contains}
+use Rattle.ds_image.proofs.Spelling.Sizes.{part_within}
 use Rattle.ds_image.proofs.Bits.{bits-get}
 use Rattle.ds_plan_laws_size.specs.Clusters.{MarksCluster, MarksClusters}
 use Rattle.ds_plan_laws_size.specs.Remarks.{Remarks}
@@ -28,7 +28,7 @@ some-part None some = absurd (false≢true some)
 some-part (Some v) some = (v, refl)
 
 -- such a bitmap is one of its cluster
-pub marked-is_bits : (g : Geom) (look : Look) (p : Parts) (kind : Kind) (given taken : List ℕ) (c : ℕ) (after : Bitmap) → Reads g look p
+pub marked-is_bits : (g : Geom) (look : Look) (p : Parts) (kind : Kind) (given taken : List ℕ) (c : ℕ) (after : Bitmap) → ReadsParts g look p
     → MarksCluster g p kind given taken c after → (c < clusters_of g kind) × IsBits g kind c after
 marked-is_bits g look p kind given taken c after reads marks =
     let within : c < clusters_of g kind = omega (arith, part_within (maps_of p kind) c marks.before marks.there, (reads.maps kind).len) in
@@ -41,7 +41,7 @@ marked-is_bits g look p kind given taken c after reads marks =
       },
     )
 
-module _ (g : Geom) (look look' : Look) (p : Parts) (kind : Kind) (given taken : List ℕ) (writes : List (ℕ × Bitmap)) (reads : Reads g look p)
+module _ (g : Geom) (look look' : Look) (p : Parts) (kind : Kind) (given taken : List ℕ) (writes : List (ℕ × Bitmap)) (reads : ReadsParts g look p)
     (all : AllSpelled (maps_of p kind)) (marks : MarksClusters g p kind given taken writes) (can : CanMark (bits_in (maps_of p kind)) taken)
     (reads' : IsReading (clusters_of g kind) (SpellsBits g look' kind) (put_all (maps_of p kind) writes)) where
   abbrev maps : List (Option Bitmap)

@@ -12,7 +12,7 @@ use Rattle.ds_tree.specs.Counts.{pointer_blocks}
 use Rattle.ds_image.specs.Objects.{addresses_in, pointed_by, tail_by}
 use Rattle.ds_image.specs.Parts.{Parts, part_at}
 use Rattle.ds_image.specs.Sound.{AreZero}
-use Rattle.ds_image.proofs.Sizes.{length-flat_map_each, many_pointers}
+use Rattle.ds_image.proofs.Spelling.Sizes.{length-flat_map_each, many_pointers}
 use Rattle.ds_image.proofs.Bits.{flat-get}
 use Rattle.ds_plan_laws_size.specs.Pages.{ptrs_in, blocks_in, IsPage, SpellsBlocks}
 

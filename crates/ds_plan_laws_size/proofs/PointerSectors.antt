@@ -10,16 +10,16 @@ use Rattle.ds_image.specs.Guards.{IsGuard}
 use Rattle.ds_image.specs.Looks.{Look}
 use Rattle.ds_image.specs.Owns.{IsAt}
 use Rattle.ds_image.specs.Parts.{Parts, part_at}
-use Rattle.ds_image.specs.Readings.{Reads}
+use Rattle.ds_image.specs.Readings.{ReadsParts}
 use Rattle.ds_image.specs.Sound.{IsSound, ptr_lists}
-use Rattle.ds_image.proofs.Listed.{ptr_listed_within}
+use Rattle.ds_image.proofs.Ownership.Listed.{ptr_listed_within}
 use Rattle.ds_layout.specs.Places.{place_sector, blocks_at}
 use Rattle.ds_layout.specs.declared.places.Place.TheVariants as places
 use Rattle.ds_image.proofs.SectorGuards.{guard-ptr_listed}
 use Rattle.ds_plan_laws_size.specs.Pages.{ptrs_in}
 use Rattle.ds_plan_laws_size.proofs.FileLists.{ptr_list-is}
 
-module _ (g : Geom) (look : Look) (p : Parts) (o : ℕ) (b : Body) (reads : Reads g look p) (sound : IsSound p) (there : part_at p.bodies o ≡ Some b)
+module _ (g : Geom) (look : Look) (p : Parts) (o : ℕ) (b : Body) (reads : ReadsParts g look p) (sound : IsSound p) (there : part_at p.bodies o ≡ Some b)
     (file : b.kind ≡ Some kinds.File) (k n : ℕ) (at : slice_get (ptrs_in b) k ≡ Some n) where
   pub pointer-listed : IsAt (ptr_lists p) o k n
   pointer-listed = ap (λ l. slice_get l k) (ptr_list-is p o b there file) ∙ at

@@ -12,10 +12,10 @@ use Rattle.ds_fd.specs.Body.{IsBody}
 use Rattle.ds_fd.specs.declared.body.Body.{Body}
 use Rattle.ds_image.specs.Looks.{Look}
 use Rattle.ds_image.specs.Parts.{Parts, bits_in}
-use Rattle.ds_image.specs.Readings.{Reads}
+use Rattle.ds_image.specs.Readings.{ReadsParts}
 use Rattle.ds_image.specs.Sound.{IsSound}
-use Rattle.ds_image.proofs.Marking.{can-none}
-use Rattle.ds_image.proofs.Sizes.{body_is}
+use Rattle.ds_image.proofs.Ownership.Marking.{can-none}
+use Rattle.ds_image.proofs.Spelling.Sizes.{body_is}
 use Rattle.ds_ptr.specs.declared.ptr_block.PtrBlock.{PtrBlock}
 use Rattle.ds_tree.specs.Counts.{pointer_blocks}
 use Rattle.ds_plan_laws_size.specs.Clusters.{MarksClusters}
@@ -39,7 +39,7 @@ pointers-rise few many l = elim (cases_lt 96 few) [
   | inr small ↦ omega (arith, few-pointers few small)
 ]
 
-module _ (g : Geom) (look : Look) (p : Parts) (reads : Reads g look p) (sound : IsSound p) (o : ℕ) (b b' : Body) (size first : ℕ) (ptrs : List (ℕ × PtrBlock)) where
+module _ (g : Geom) (look : Look) (p : Parts) (reads : ReadsParts g look p) (sound : IsSound p) (o : ℕ) (b b' : Body) (size first : ℕ) (ptrs : List (ℕ × PtrBlock)) where
   module _ (blocks pointers : List Take) (grows : GrowsFile g p o b b' size blocks pointers first ptrs) where
     abbrev added : List ℕ
     added = items_taken g Fb blocks

@@ -20,8 +20,8 @@ use Rattle.ds_tree.specs.declared.calls.TreeReply.TheVariants.{Sized, NoObject, 
 use Rattle.ds_image.specs.Objects.{entries_of, object_of, tree_of}
 use Rattle.ds_image.specs.Parts.{Parts, part_at, bits_in}
 use Rattle.ds_image.specs.Sound.{StandsFor}
-use Rattle.ds_image.proofs.Sizes.{body_is}
-use Rattle.ds_image.proofs.TreeParts.{object-is}
+use Rattle.ds_image.proofs.Spelling.Sizes.{body_is}
+use Rattle.ds_image.proofs.FileTrees.TreeParts.{object-is}
 use Rattle.ds_plan_laws_new.specs.Entering.{subs_in}
 use Rattle.ds_image.proofs.Bits.{clear_count}
 use Rattle.ds_plan_laws_new.proofs.EnteredTrees.{dir-object, unused-object}

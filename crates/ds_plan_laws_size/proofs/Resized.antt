@@ -13,10 +13,10 @@ use Rattle.ds_image.specs.Owns.{Owns, list_of}
 use Rattle.ds_image.specs.Parts.{Parts, part_at, AllSpelled, bits_in}
 use Rattle.ds_image.specs.Sound.{IsSound, IsNamedRight, AreZero, sub_lists, ptr_lists, block_lists}
 use Rattle.ds_image.specs.SoundObjects.{AreNamesApart, IsSoundObject, IsMarked}
-use Rattle.ds_image.proofs.NamesApart.{apart-none}
-use Rattle.ds_image.proofs.Owning.{owns-alike}
-use Rattle.ds_image.proofs.Sizes.{part_within}
-use Rattle.ds_image.proofs.SoundParts.{all-at, all-from_at, list-is, sound-from, objects-of}
+use Rattle.ds_image.proofs.FileTrees.NamesApart.{apart-none}
+use Rattle.ds_image.proofs.Ownership.Owning.{owns-alike}
+use Rattle.ds_image.proofs.Spelling.Sizes.{part_within}
+use Rattle.ds_image.proofs.Spelling.SoundParts.{all-at, all-from_at, list-is, sound-from, objects-of}
 use Rattle.ds_image.proofs.Bits.{all-put}
 use Rattle.ds_plan_laws_new.proofs.Rooms.{used-same}
 use Rattle.ds_plan_laws_size.specs.Pages.{ptrs_in, blocks_in}

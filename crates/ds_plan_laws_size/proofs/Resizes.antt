@@ -24,13 +24,13 @@ use Rattle.ds_tree.specs.declared.calls.TreeReply.TheVariants.{Sized}
 use Rattle.ds_image.specs.Objects.{blocks_of, tree_of}
 use Rattle.ds_image.specs.Owns.{IsAt}
 use Rattle.ds_image.specs.Parts.{Parts, bits_in}
-use Rattle.ds_image.specs.Readings.{Reads}
+use Rattle.ds_image.specs.Readings.{ReadsParts}
 use Rattle.ds_image.specs.Sound.{IsSound, block_lists}
-use Rattle.ds_image.proofs.Listed.{bits_length}
-use Rattle.ds_image.proofs.Places.{at-append, at-from_Contains, bit-from_at}
-use Rattle.ds_image.proofs.Sizes.{body_is}
-use Rattle.ds_image.proofs.SoundParts.{all-from_at, list-is}
-use Rattle.ds_image.proofs.TreeParts.{blocks-are}
+use Rattle.ds_image.proofs.Ownership.Listed.{bits_length}
+use Rattle.ds_image.proofs.Spelling.Places.{at-append, at-from_Contains, bit-from_at}
+use Rattle.ds_image.proofs.Spelling.Sizes.{body_is}
+use Rattle.ds_image.proofs.Spelling.SoundParts.{all-from_at, list-is}
+use Rattle.ds_image.proofs.FileTrees.TreeParts.{blocks-are}
 use Rattle.ds_plan_laws_new.specs.Making.{Leaves}
 use Rattle.ds_plan_laws_new.proofs.FreeItems.{free-clear}
 use Rattle.ds_plan_laws_new.proofs.Granting.{key-node}
@@ -82,7 +82,7 @@ resize-does g t u file size blocks node granted resizes =
     subst (λ r. MatchOption r (Succeeds g t (Resize file size) (Sized size) u) (λ refused. (Sized size ≡ refused) × (u ≡ t)))
     (sym (ap (λ n. in_file n (refuses_resize g t size)) node ∙ granted)) (refl, resizes)
 
-module _ (g : Geom) (image image' : List Sector) (p q : Parts) (reads : Reads g (slice_get image) p) (reads' : Reads g (slice_get image') q) (sound : IsSound p)
+module _ (g : Geom) (image image' : List Sector) (p q : Parts) (reads : ReadsParts g (slice_get image) p) (reads' : ReadsParts g (slice_get image') q) (sound : IsSound p)
     (key : Key) (b b' : Body) (size : ℕ) (added pointers : List ℕ) (re : ResizesParts p q key.object b b' size added pointers) where
   abbrev t : FileTree
   t = tree_of p

@@ -9,14 +9,14 @@ use Rattle.ds_fd.specs.declared.body.Body.{Body}
 use Rattle.ds_image.specs.Looks.{Look}
 use Rattle.ds_image.specs.Objects.{addresses_in, pointed_by, tail_by}
 use Rattle.ds_image.specs.Parts.{Parts, part_at}
-use Rattle.ds_image.specs.Readings.{Reads}
+use Rattle.ds_image.specs.Readings.{ReadsParts}
 use Rattle.ds_image.specs.Sound.{IsSound, AreZero}
-use Rattle.ds_image.proofs.Sizes.{body_is, file_size, ptr_length}
+use Rattle.ds_image.proofs.Spelling.Sizes.{body_is, file_size, ptr_length}
 use Rattle.ds_plan_laws_size.specs.Pages.{ptrs_in, blocks_in, IsPage, SpellsBlocks}
 use Rattle.ds_plan_laws_size.proofs.FileLists.{ptr_list-is, tail-of_file}
 use Rattle.ds_plan_laws_size.proofs.Paged.{page-of, ptrs-length, some-pointers}
 
-module _ (g : Geom) (look : Look) (p : Parts) (o : ℕ) (b : Body) (reads : Reads g look p) (sound : IsSound p) (there : part_at p.bodies o ≡ Some b)
+module _ (g : Geom) (look : Look) (p : Parts) (o : ℕ) (b : Body) (reads : ReadsParts g look p) (sound : IsSound p) (there : part_at p.bodies o ≡ Some b)
     (file : b.kind ≡ Some kinds.File) where
   abbrev pointed : ℕ → List ℕ
   pointed n = addresses_in (part_at p.ptrs n)

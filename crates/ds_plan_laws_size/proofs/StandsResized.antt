@@ -12,11 +12,11 @@ use Rattle.ds_image.specs.Logical.{laid_over}
 use Rattle.ds_image.specs.Looks.{Look}
 use Rattle.ds_image.specs.Parts.{Parts, AllSpelled, maps_of}
 use Rattle.ds_image.specs.Pending.{Pair}
-use Rattle.ds_image.specs.Readings.{Reads}
+use Rattle.ds_image.specs.Readings.{ReadsParts}
 use Rattle.ds_image.specs.Sound.{StandsFor}
-use Rattle.ds_image.proofs.LaidOver.{whole-laid_over}
-use Rattle.ds_image.proofs.Places.{at-append}
-use Rattle.ds_image.proofs.SoundParts.{each_kind}
+use Rattle.ds_image.proofs.Journaling.LaidOver.{whole-laid_over}
+use Rattle.ds_image.proofs.Spelling.Places.{at-append}
+use Rattle.ds_image.proofs.Spelling.SoundParts.{each_kind}
 use Rattle.ds_ptr.specs.declared.ptr_block.PtrBlock.{PtrBlock}
 use Rattle.ds_image.specs.Objects.{tree_of}
 use Rattle.ds_tree.specs.Nodes.{FileTree, Object, node_at}
@@ -137,9 +137,9 @@ module _ (g : Geom) (is : IsGeom g) (image : List Sector) (t : FileTree) (stands
       record { is = (within, page.is_block); in_image = pointers-in_image g image stands.whole x.0 within }))))
 
   -- the parts that the image then spells
-  pub resized-reads : Reads g (slice_get (laid_over image pairs)) parts-after
+  pub resized-reads : ReadsParts g (slice_get (laid_over image pairs)) parts-after
   resized-reads =
-      subst (Reads g (slice_get (laid_over image pairs))) (resized-is p key.object b' pb_maps fb_maps ptrs)
+      subst (ReadsParts g (slice_get (laid_over image pairs))) (resized-is p key.object b' pb_maps fb_maps ptrs)
       (reads-written g is image p pairs (resize_parts key.object b' pb_maps fb_maps ptrs) are can-write stands.reads)
 
   size-after : length (blocks_after p b size added) ≡ size

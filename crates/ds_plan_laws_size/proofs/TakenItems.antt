@@ -10,13 +10,13 @@ use Rattle.ds_base.specs.declared.geometry.Geom.{Geom}
 use Rattle.ds_base.specs.declared.geometry.Kind.{Kind}
 use Rattle.ds_bitmap.specs.Bits.{Bitmap}
 use Rattle.ds_image.specs.Looks.{Look}
-use Rattle.ds_image.specs.Owned.{CanMark, AddsMarks, ClearsMarks}
+use Rattle.ds_image.specs.Owned.{CanMark, AddsMarks}
 use Rattle.ds_image.specs.Owns.{bit}
 use Rattle.ds_image.specs.Parts.{Parts, AllSpelled, maps_of, bits_in}
-use Rattle.ds_image.specs.Readings.{Reads}
-use Rattle.ds_image.proofs.Marking.{adds-many, clears-many}
-use Rattle.ds_image.proofs.Places.{at-append, at-append_left, at-append_right, Contains-from_at, at-from_Contains}
-use Rattle.ds_image.proofs.Sizes.{part_within}
+use Rattle.ds_image.specs.Readings.{ReadsParts}
+use Rattle.ds_image.proofs.Ownership.Marking.{adds-many, clears-many}
+use Rattle.ds_image.proofs.Spelling.Places.{at-append, at-append_left, at-append_right, Contains-from_at, at-from_Contains}
+use Rattle.ds_image.proofs.Spelling.Sizes.{part_within}
 use Rattle.ds_image.proofs.Bits.{bit-within, bits-at}
 use Rattle.ds_plan_laws_size.specs.Clusters.{MarksCluster, MarksClusters}
 use Rattle.ds_plan_laws_size.specs.Takes.{Take, items_taken, maps_taken, Takes, items_in_cluster, Gives}
@@ -118,7 +118,7 @@ takes-rest p kind t ts are = record {
   can = λ i u at. are.can (suc i) u at;
 }
 
-module _ (g : Geom) (look : Look) (p : Parts) (kind : Kind) (reads : Reads g look p) (all : AllSpelled (maps_of p kind)) where
+module _ (g : Geom) (look : Look) (p : Parts) (kind : Kind) (reads : ReadsParts g look p) (all : AllSpelled (maps_of p kind)) where
   abbrev per : ℕ
   per = per_cluster g kind
 

@@ -14,11 +14,11 @@ use Rattle.ds_image.specs.Objects.{addresses_in}
 use Rattle.ds_image.specs.Owned.{CanMark}
 use Rattle.ds_image.specs.Owns.{IsAt}
 use Rattle.ds_image.specs.Parts.{Parts, part_at, bits_in}
-use Rattle.ds_image.specs.Readings.{Reads}
+use Rattle.ds_image.specs.Readings.{ReadsParts}
 use Rattle.ds_image.specs.Sound.{IsSound, ptr_lists}
-use Rattle.ds_image.proofs.Listed.{bits_length, ptr_listed_within}
-use Rattle.ds_image.proofs.Places.{at-append, at-append_left, bit-from_at}
-use Rattle.ds_image.proofs.Sizes.{body_is}
+use Rattle.ds_image.proofs.Ownership.Listed.{bits_length, ptr_listed_within}
+use Rattle.ds_image.proofs.Spelling.Places.{at-append, at-append_left, bit-from_at}
+use Rattle.ds_image.proofs.Spelling.Sizes.{body_is}
 use Rattle.ds_plan_laws_size.specs.Pages.{ptrs_in, blocks_in, IsPage, SpellsBlocks}
 use Rattle.ds_plan_laws_size.specs.Pointers.{WritesPages}
 use Rattle.ds_plan_laws_size.specs.Resizing.{IsResized, blocks_after}
@@ -28,7 +28,7 @@ use Rattle.ds_plan_laws_size.proofs.Paged.{ptrs-length, some-pointers}
 use Rattle.ds_plan_laws_size.proofs.PutAll.{put-other, put-there}
 use Rattle.ds_plan_laws_size.proofs.SpelledBlocks.{spelled-blocks, size-is, page-kept}
 
-module _ (g : Geom) (look : Look) (p : Parts) (reads : Reads g look p) (sound : IsSound p) (o : ℕ) (b b' : Body) (size : ℕ) (pointers : List ℕ)
+module _ (g : Geom) (look : Look) (p : Parts) (reads : ReadsParts g look p) (sound : IsSound p) (o : ℕ) (b b' : Body) (size : ℕ) (pointers : List ℕ)
     (body : IsResized p o b b' size) (lists : ptrs_in b' ≡ take (pointer_blocks size) (ptrs_in b) ++ pointers) (can : CanMark (bits_in p.pb_maps) pointers) where
   abbrev kept : List ℕ
   kept = take (pointer_blocks size) (ptrs_in b)

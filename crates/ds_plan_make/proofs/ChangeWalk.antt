@@ -32,7 +32,7 @@ use Rattle.ds_image.specs.Asking.{Agrees, AreTargets, targets_of}
 use Rattle.ds_image.specs.Objects.{subs_by, subs_of, used_rooms, entries_of}
 use Rattle.ds_image.specs.Parts.{Parts, part_at, maps_of}
 use Rattle.ds_image.specs.Pending.{Pair}
-use Rattle.ds_image.specs.Readings.{Reads}
+use Rattle.ds_image.specs.Readings.{ReadsParts}
 use Rattle.ds_image.specs.SeenValues.{SeenValue, has_lock, look_of}
 use Rattle.ds_image.specs.Sound.{StandsFor}
 use Rattle.ds_layout.proofs.Bounds.{most_items_of}
@@ -64,7 +64,7 @@ made-changes : (t : FileTree) (kind : NodeKind) (dir : Key) (name : List ℕ) �
 made-changes t kinds.Dir dir name = refl
 made-changes t kinds.File dir name = refl
 
-module _ (g : Geom) (is_geom : IsGeom g) (slot : ℕ) (key : Key) (name : List ℕ) (named : IsName name) (kind : NodeKind) (seen : SeenValue) (p : Parts) (reads : Reads g (look_of seen) p)
+module _ (g : Geom) (is_geom : IsGeom g) (slot : ℕ) (key : Key) (name : List ℕ) (named : IsName name) (kind : NodeKind) (seen : SeenValue) (p : Parts) (reads : ReadsParts g (look_of seen) p)
     (dir : Body) (whole : HasWhole g seen p key name dir) (item : FreeItem) (has : HasItem g seen p Fd item) (before : Body) (new : HasNew g seen p (number_of g Fd item) before) where
   abbrev call : CallOf Key
   call = make_call kind key name

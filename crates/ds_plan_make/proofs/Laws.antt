@@ -25,11 +25,11 @@ use Rattle.ds_image.specs.Asking.{Agrees, makes_object}
 use Rattle.ds_image.specs.Objects.{subs_by, subs_of, used_rooms, entries_of}
 use Rattle.ds_image.specs.Parts.{Parts}
 use Rattle.ds_image.specs.Planning.{AllAreAllowed, AllAreFew, AllKeep}
-use Rattle.ds_image.specs.Readings.{Reads}
+use Rattle.ds_image.specs.Readings.{ReadsParts}
 use Rattle.ds_image.specs.SeenValues.{SeenValue, look_of}
 use Rattle.ds_image.specs.Sound.{StandsFor}
 use Rattle.ds_image.specs.declared.asks.Ask.{Ask}
-use Rattle.ds_image.proofs.Sizes.{body_is, part_within}
+use Rattle.ds_image.proofs.Spelling.Sizes.{body_is, part_within}
 use Rattle.ds_layout.specs.Places.{cluster_lock, clusters_before, place_sector}
 use Rattle.ds_layout.specs.declared.places.Place.TheVariants as places
 use Rattle.ds_plan_make.specs.Answers.{MakeValue, call_of, unused_body, object_known, change_by, change_known, changed, answers_of}
@@ -110,7 +110,7 @@ few-fd g is c l = (omega (arith, l, (is (Clusters Fd)).1), omega (arith, l, (is 
 few-sb : (g : Geom) → IsGeom g → (c : ℕ) → c < clusters_of g Sb → (8 * kind_number Sb + c < 16) × (clusters_before g Sb + c < 16)
 few-sb g is c l = (omega (arith, l, (is (Clusters Sb)).1), omega (arith, l, (is (Clusters Sb)).1, (is (Clusters Fd)).1))
 
-module _ (g : Geom) (is_geom : IsGeom g) (slot : ℕ) (key : Key) (name : List ℕ) (named : IsName name) (kind : NodeKind) (seen : SeenValue) (p : Parts) (reads : Reads g (look_of seen) p) where
+module _ (g : Geom) (is_geom : IsGeom g) (slot : ℕ) (key : Key) (name : List ℕ) (named : IsName name) (kind : NodeKind) (seen : SeenValue) (p : Parts) (reads : ReadsParts g (look_of seen) p) where
   abbrev call : CallOf Key
   call = make_call kind key name
 
@@ -243,7 +243,7 @@ module _ (g : Geom) (is_geom : IsGeom g) (slot : ℕ) (key : Key) (name : List �
 
 -- The laws
 
-asks_of : (plan : MakeValue) → IsGeom plan.geom → HasNames (call_of plan) → (seen : SeenValue) (p : Parts) → Reads plan.geom (look_of seen) p
+asks_of : (plan : MakeValue) → IsGeom plan.geom → HasNames (call_of plan) → (seen : SeenValue) (p : Parts) → ReadsParts plan.geom (look_of seen) p
     → PlanAsks plan.geom plan.slot (call_of plan) (MayHold plan.geom plan.slot plan.dir.object) (MayRead plan.geom plan.slot plan.dir.object) seen p (answers_of plan seen p)
 asks_of plan is names seen p reads = make_asks plan.geom is plan.slot plan.dir plan.name (names-by plan.kind plan.dir plan.name names) plan.kind seen p reads
 

@@ -9,7 +9,7 @@ use Rattle.ds_base.specs.declared.geometry.Geom.{Geom}
 use Rattle.ds_base.specs.declared.geometry.Kind.TheVariants.{Fd}
 use Rattle.ds_image.specs.Objects.{subs_of}
 use Rattle.ds_image.specs.Parts.{Parts, part_at}
-use Rattle.ds_image.specs.Readings.{Reads}
+use Rattle.ds_image.specs.Readings.{ReadsParts}
 use Rattle.ds_image.specs.SeenValues.{SeenValue, look_of}
 use Rattle.ds_layout.specs.Places.{clusters_at, place_sector}
 use Rattle.ds_layout.specs.declared.places.Place.TheVariants as places
@@ -34,7 +34,7 @@ pub data MayRead (g : Geom) (slot dir : ℕ) (seen : SeenValue) (p : Parts) : �
 
 -- What was known stays known
 
-module _ (g : Geom) (slot : ℕ) (seen next : SeenValue) (p q : Parts) (is_geom : IsGeom g) (grows : Grows seen next) (reads : Reads g (look_of seen) p) (reads' : Reads g (look_of next) q) where
+module _ (g : Geom) (slot : ℕ) (seen next : SeenValue) (p q : Parts) (is_geom : IsGeom g) (grows : Grows seen next) (reads : ReadsParts g (look_of seen) p) (reads' : ReadsParts g (look_of next) q) where
   pub holds-stay : (dir object : ℕ) → MayHold g slot dir seen p object → MayHold g slot dir next q object
   holds-stay dir _ the_dir = the_dir
   holds-stay dir _ (a_cluster m l) = a_cluster m l
@@ -105,7 +105,7 @@ few_locks g slot dir seen p =
     let new = known_new g (free_item g slot seen p Fd) in
     omega (arith, length-append (map (λ m. 2048 + m) (firsts 16)) new, length-map (firsts 16) (λ m. 2048 + m), length-firsts 16, few-new g (free_item g slot seen p Fd))
 
-pub few_sectors : (g : Geom) (slot dir : ℕ) (seen : SeenValue) (p : Parts) → Reads g (look_of seen) p → length (sector_list g slot dir seen p) ≤ 255
+pub few_sectors : (g : Geom) (slot dir : ℕ) (seen : SeenValue) (p : Parts) → ReadsParts g (look_of seen) p → length (sector_list g slot dir seen p) ≤ 255
 few_sectors g slot dir seen p reads =
     let new = known_new g (free_item g slot seen p Fd) in
     let maps = map (λ m. clusters_at g + 2 * m + 1) (firsts 16) in

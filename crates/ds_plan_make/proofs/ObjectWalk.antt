@@ -16,12 +16,12 @@ use Rattle.ds_fd.specs.declared.body.Body.{Body}
 use Rattle.ds_image.specs.Asking.{Agrees, makes_object}
 use Rattle.ds_image.specs.Objects.{is_used}
 use Rattle.ds_image.specs.Parts.{Parts, part_at, used_bits}
-use Rattle.ds_image.specs.Readings.{Reads}
+use Rattle.ds_image.specs.Readings.{ReadsParts}
 use Rattle.ds_image.specs.SeenValues.{SeenValue, has_lock, look_of}
 use Rattle.ds_image.specs.Sound.{StandsFor}
 use Rattle.ds_image.specs.declared.asks.Ask.{Ask}
 use Rattle.ds_image.specs.declared.asks.Ask.TheVariants as asks
-use Rattle.ds_image.proofs.Sizes.{body_is}
+use Rattle.ds_image.proofs.Spelling.Sizes.{body_is}
 use Rattle.ds_layout.specs.Places.{place_sector}
 use Rattle.ds_layout.specs.declared.places.Place.TheVariants as places
 use Rattle.ds_plan_make.specs.Answers.{unused_by, unused_body}
@@ -51,7 +51,7 @@ pub record HasNew (g : Geom) (seen : SeenValue) (p : Parts) (o : ℕ) (b : Body)
   pub there : part_at p.bodies o ≡ Some b
   pub can : CanBegin o b
 
-module _ (g : Geom) (slot : ℕ) (call : CallOf Key) (dir : ℕ) (seen : SeenValue) (p : Parts) (reads : Reads g (look_of seen) p) (makes : makes_object call ≡ true)
+module _ (g : Geom) (slot : ℕ) (call : CallOf Key) (dir : ℕ) (seen : SeenValue) (p : Parts) (reads : ReadsParts g (look_of seen) p) (makes : makes_object call ≡ true)
     (wants : locks.WantsDescriptor p call) (item : FreeItem) (has : HasItem g seen p Fd item) (found : free_item g slot seen p Fd ≡ Ok (Some item)) where
   abbrev Good : Ask → Type 0
   Good = PlanAsks g slot call (MayHold g slot dir) (MayRead g slot dir) seen p

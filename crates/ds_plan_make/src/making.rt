@@ -5,7 +5,7 @@ ghost use Rattle.ds_base.specs.Names.{IsName};
 ghost use Rattle.ds_plan_laws_new.specs.Entering.{make_call};
 ghost use Rattle.ds_image.specs.Asking.{makes_object};
 ghost use Rattle.ds_image.specs.Parts.{Parts};
-ghost use Rattle.ds_image.specs.Readings.{Reads};
+ghost use Rattle.ds_image.specs.Readings.{ReadsParts};
 ghost use Rattle.ds_image.specs.SeenValues.{look_of};
 ghost use Rattle.ds_plan_make.specs.Answers.{answers_of, call_of, change_known};
 ghost use Rattle.ds_tree.specs.CallNames.{HasNames};
@@ -83,7 +83,7 @@ impl Make {
 
     /// What the call needs next by what it has seen, or how it ends.
     pub fn ask(&self, seen: &Seen) -> Ask
-        ensures answer { (p : Parts) → Reads self.now.geom (look_of seen.now) p → result ≡ answers_of self.now seen.now p }
+        ensures answer { (p : Parts) → ReadsParts self.now.geom (look_of seen.now) p → result ≡ answers_of self.now seen.now p }
     {
         match self.change_known(seen) {
             Ok(Making { redo, key }) => Ask::Change(redo, TreeReply::Made { key }),
@@ -93,7 +93,7 @@ impl Make {
 
     /// The change, or what is asked for before it is known.
     fn change_known(&self, seen: &Seen) -> Result<Making, Stop>
-        ensures answer { (p : Parts) → Reads self.now.geom (look_of seen.now) p
+        ensures answer { (p : Parts) → ReadsParts self.now.geom (look_of seen.now) p
             → result ≡ change_known self.now.geom self.now.slot seen.now p self.now.dir self.now.name self.now.kind }
         ensures geom { IsGeom self.now.geom }
         ensures name { IsName self.now.name }

@@ -4,7 +4,7 @@ ghost use Rattle.ds_base.specs.Geometry.{IsGeom, items_of};
 ghost use Rattle.ds_base.specs.Names.{IsName};
 ghost use Rattle.ds_base.specs.declared.geometry.Kind.TheVariants.{Fd};
 ghost use Rattle.ds_image.specs.Parts.{Parts};
-ghost use Rattle.ds_image.specs.Readings.{Reads};
+ghost use Rattle.ds_image.specs.Readings.{ReadsParts};
 ghost use Rattle.ds_image.specs.SeenValues.{IsSeen, look_of};
 ghost use Rattle.ds_plan_make.specs.Answers.{object_known, unused_body};
 ghost use Rattle.ds_plan_make.specs.Objects.{IsNewObject, CanBegin};
@@ -34,7 +34,7 @@ pub fn object_known(
     name: &Name,
 ) -> Result<NewObject, Stop>
     requires { IsGeom geom.now }
-    ensures answer { (p : Parts) → Reads geom.now (look_of seen.now) p
+    ensures answer { (p : Parts) → ReadsParts geom.now (look_of seen.now) p
         → result ≡ object_known geom.now slot seen.now p kind name.now }
     ensures is_new { IfOk result (IsNewObject geom.now) }
     ensures whole { IfOk result (λ _. IsSeen seen.now) }
@@ -48,7 +48,7 @@ pub fn object_known(
 fn unused_body(geom: &Geom, seen: &Seen, object: ObjNo) -> Result<Body, Stop>
     requires geom { IsGeom geom.now }
     requires inside { object < items_of geom.now Fd }
-    ensures answer { (p : Parts) → Reads geom.now (look_of seen.now) p
+    ensures answer { (p : Parts) → ReadsParts geom.now (look_of seen.now) p
         → result ≡ unused_body geom.now seen.now p object }
     ensures can_begin { IfOk result (CanBegin object) }
     ensures whole { IsSeen seen.now }

@@ -1,0 +1,5 @@
+pub mod Laws
+mod BlockWalk
+mod Doing
+mod KeyWalk
+mod ReplyWalk

@@ -1,12 +1,2 @@
-pub mod Alike
-pub mod Answering
-pub mod Doing
-pub mod Finding
-pub mod Keeping
-pub mod KeepingPages
-pub mod KeepingReplies
-pub mod PageLists
-pub mod Pages
-pub mod Pointers
-pub mod Questions
-pub mod Small
+pub mod Answers
+pub mod Blocks

@@ -1,10 +1,10 @@
-//! The planner of the calls that only read.
+//! The planner of the calls that only read an object, Stat, Map, OpenFile and At: how they find out what they answer, lock by lock
+//! and sector by sector.
 #![tactic(auto)]
 
-mod found;
-mod pages;
+mod blocks;
 mod questions;
-mod reads;
+mod reading;
 
 pub use questions::Question;
-pub use reads::Reads;
+pub use reading::ObjectReads;

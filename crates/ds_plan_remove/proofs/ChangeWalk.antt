@@ -23,10 +23,10 @@ use Rattle.ds_image.specs.Asking.{Agrees}
 use Rattle.ds_image.specs.Objects.{subs_by, subs_of, used_rooms}
 use Rattle.ds_image.specs.Parts.{Parts}
 use Rattle.ds_image.specs.Pending.{Pair}
-use Rattle.ds_image.specs.Readings.{Reads}
+use Rattle.ds_image.specs.Readings.{ReadsParts}
 use Rattle.ds_image.specs.SeenValues.{SeenValue, look_of}
 use Rattle.ds_image.specs.Sound.{StandsFor}
-use Rattle.ds_image.proofs.Sizes.{body_is}
+use Rattle.ds_image.proofs.Spelling.Sizes.{body_is}
 use Rattle.ds_jrnl.specs.declared.redo.Redo.{Redo}
 use Rattle.ds_layout.specs.Places.{place_sector}
 use Rattle.ds_layout.specs.declared.places.Place.TheVariants as places
@@ -64,7 +64,7 @@ pub ended-body : (b : Body) → IsBody b → IsBody (ended b)
 unfolding zeros
 ended-body b is = ended-is_body b (ended b) is refl refl refl refl refl refl
 
-module _ (g : Geom) (is_geom : IsGeom g) (key : Key) (name : List ℕ) (kind : NodeKind) (seen : SeenValue) (p : Parts) (reads : Reads g (look_of seen) p)
+module _ (g : Geom) (is_geom : IsGeom g) (key : Key) (name : List ℕ) (kind : NodeKind) (seen : SeenValue) (p : Parts) (reads : ReadsParts g (look_of seen) p)
     (dir : Body) (has : HasDir g seen p key dir) (f : Found) (at : HasFound g seen p dir name (subs_of (Some dir)) f) (is_kind : f.kind ≡ kind)
     (b : Body) (obj : HasObject g seen p kind f.key b) (redo : Redo) (given : IsGiven g seen (λ q. given_up q f.key.object b) redo)
     (bare : (image : List Sector) (t : FileTree) (stands : StandsFor g image t) → Agrees seen image → used_rooms stands.parts (subs_of (Some b)) ≡ []) where

@@ -24,15 +24,15 @@ use Rattle.ds_image.specs.Asking.{Agrees}
 use Rattle.ds_image.specs.Objects.{subs_by, subs_of, ptrs_by, ptrs_of, addresses_in, blocks_by, blocks_of, used_rooms, entries_of}
 use Rattle.ds_image.specs.Owns.{IsAt}
 use Rattle.ds_image.specs.Parts.{Parts, part_at}
-use Rattle.ds_image.specs.Readings.{Reads}
+use Rattle.ds_image.specs.Readings.{ReadsParts}
 use Rattle.ds_image.specs.SeenValues.{SeenValue, has_lock, look_of}
 use Rattle.ds_image.specs.Sound.{StandsFor, ptr_lists}
 use Rattle.ds_image.specs.SoundObjects.{AreNamesApart}
 use Rattle.ds_image.specs.declared.asks.Ask.{Ask}
 use Rattle.ds_image.specs.declared.asks.Ask.TheVariants as asks
-use Rattle.ds_image.proofs.Listed.{ptr_listed_within}
-use Rattle.ds_image.proofs.Places.{at-append_right}
-use Rattle.ds_image.proofs.SoundParts.{list-is, objects-of}
+use Rattle.ds_image.proofs.Ownership.Listed.{ptr_listed_within}
+use Rattle.ds_image.proofs.Spelling.Places.{at-append_right}
+use Rattle.ds_image.proofs.Spelling.SoundParts.{list-is, objects-of}
 use Rattle.ds_layout.specs.Places.{place_sector}
 use Rattle.ds_layout.specs.declared.places.Place.TheVariants as places
 use Rattle.ds_plan_base.specs.Bodies.{sub_seen}
@@ -71,7 +71,7 @@ pub record HasContents (g : Geom) (seen : SeenValue) (p : Parts) (b : Body) : Ty
   pub ptrs : (i n : ℕ) → slice_get (ptrs_of (Some b)) i ≡ Some n → (block : PtrBlock) × HasPtr g seen p n block
 
 -- a pointer block that was read is that of each image that agrees
-pub ptr-in : (g : Geom) (seen : SeenValue) (p : Parts) → Reads g (look_of seen) p → (n : ℕ) → n < items_of g Pb → IsSome (look_of seen (place_sector g (places.PtrBlock n)))
+pub ptr-in : (g : Geom) (seen : SeenValue) (p : Parts) → ReadsParts g (look_of seen) p → (n : ℕ) → n < items_of g Pb → IsSome (look_of seen (place_sector g (places.PtrBlock n)))
     → (image : List Sector) (t : FileTree) (stands : StandsFor g image t) → Agrees seen image → part_at stands.parts.ptrs n ≡ part_at p.ptrs n
 ptr-in g seen p reads n inside read image t stands agrees =
     let at = place_sector g (places.PtrBlock n) in
@@ -91,7 +91,7 @@ some-entries [] some = absurd (false≢true some)
 some-entries (None ∷ rooms) some = some-entries rooms some
 some-entries (Some e ∷ rooms) some = omega arith
 
-module _ (g : Geom) (slot : ℕ) (call : CallOf Key) (MayHold MayRead : SeenValue → Parts → ℕ → Type 0) (seen : SeenValue) (p : Parts) (reads : Reads g (look_of seen) p)
+module _ (g : Geom) (slot : ℕ) (call : CallOf Key) (MayHold MayRead : SeenValue → Parts → ℕ → Type 0) (seen : SeenValue) (p : Parts) (reads : ReadsParts g (look_of seen) p)
     (kind : NodeKind) (key : Key) (b : Body) (obj : HasObject g seen p kind key b)
     (may_lock : MayLock g slot call p key.object) (may_hold : MayHold seen p key.object)
     (may_read : (at : ℕ) → list_any (nat_eq at) (object_sectors g p key.object) ≡ true → MayRead seen p at) where

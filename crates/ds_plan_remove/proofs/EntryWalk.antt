@@ -20,13 +20,13 @@ use Rattle.ds_plan_laws_gone.specs.Leaving.{go_call}
 use Rattle.ds_image.specs.Asking.{Agrees}
 use Rattle.ds_image.specs.Objects.{subs_by, subs_of, used_rooms, entries_of, blocks_by, node_by}
 use Rattle.ds_image.specs.Parts.{Parts, part_at}
-use Rattle.ds_image.specs.Readings.{Reads}
+use Rattle.ds_image.specs.Readings.{ReadsParts}
 use Rattle.ds_image.specs.SeenValues.{SeenValue, has_lock, look_of}
 use Rattle.ds_image.specs.Sound.{StandsFor}
 use Rattle.ds_image.specs.declared.asks.Ask.{Ask}
 use Rattle.ds_image.specs.declared.asks.Ask.TheVariants as asks
-use Rattle.ds_image.proofs.EntryNames.{get-entries}
-use Rattle.ds_image.proofs.Sizes.{part_within}
+use Rattle.ds_image.proofs.FileTrees.EntryNames.{get-entries}
+use Rattle.ds_image.proofs.Spelling.Sizes.{part_within}
 use Rattle.ds_layout.specs.Places.{cluster_lock, place_sector}
 use Rattle.ds_layout.specs.declared.places.Place.TheVariants as places
 use Rattle.ds_plan_base.specs.Bodies.{body_seen, dir_of_key}
@@ -106,7 +106,7 @@ no-entry : (r : Option Entry) → said_found None ≡ said_entry r → r ≡ Non
 no-entry None said = refl
 no-entry (Some e) said = absurd cc
 
-module _ (g : Geom) (is_geom : IsGeom g) (slot : ℕ) (key : Key) (name : List ℕ) (kind : NodeKind) (seen : SeenValue) (p : Parts) (reads : Reads g (look_of seen) p) where
+module _ (g : Geom) (is_geom : IsGeom g) (slot : ℕ) (key : Key) (name : List ℕ) (kind : NodeKind) (seen : SeenValue) (p : Parts) (reads : ReadsParts g (look_of seen) p) where
   abbrev call : CallOf Key
   call = go_call kind key name
 

@@ -7,7 +7,7 @@ use Rattle.ds_base.specs.declared.names.NodeKind.TheVariants as kinds
 use Rattle.ds_fd.specs.declared.body.Body.{Body}
 use Rattle.ds_image.specs.Objects.{subs_of}
 use Rattle.ds_image.specs.Parts.{Parts}
-use Rattle.ds_image.specs.Readings.{Reads}
+use Rattle.ds_image.specs.Readings.{ReadsParts}
 use Rattle.ds_image.specs.SeenValues.{SeenValue, look_of}
 use Rattle.ds_plan_base.specs.Entries.{wanted_entry}
 use Rattle.ds_plan_base.specs.declared.entries.Found.{Found}
@@ -24,7 +24,7 @@ entry-of kind found f is = by kind found.kind refl is
     by kinds.Dir kinds.File e is = absurd cc
     by kinds.File kinds.Dir e is = absurd cc
 
-pub entry-found : (g : Geom) (seen : SeenValue) (p : Parts) → Reads g (look_of seen) p → (dir : Body) (name : List ℕ) (kind : NodeKind) (f : Found) → entry_known g seen p dir name kind ≡ Ok f
+pub entry-found : (g : Geom) (seen : SeenValue) (p : Parts) → ReadsParts g (look_of seen) p → (dir : Body) (name : List ℕ) (kind : NodeKind) (f : Found) → entry_known g seen p dir name kind ≡ Ok f
     → (f.kind ≡ kind) × HasFound g seen p dir name (subs_of (Some dir)) f
 entry-found g seen p reads dir name kind f is =
     let known = after-ok (wanted_entry g seen p dir name) (entry_of kind) f is in

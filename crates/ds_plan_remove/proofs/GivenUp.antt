@@ -15,9 +15,9 @@ use Rattle.ds_image.specs.Owns.{Owns, IsAt, bit}
 use Rattle.ds_image.specs.Parts.{Parts, part_at, maps_of, bits_in}
 use Rattle.ds_image.specs.SeenValues.{SeenValue}
 use Rattle.ds_image.specs.Sound.{IsSound}
-use Rattle.ds_image.proofs.Places.{at-single, Contains-from_at}
-use Rattle.ds_image.proofs.Sizes.{part_within}
-use Rattle.ds_image.proofs.SoundParts.{list-is}
+use Rattle.ds_image.proofs.Spelling.Places.{at-single, Contains-from_at}
+use Rattle.ds_image.proofs.Spelling.Sizes.{part_within}
+use Rattle.ds_image.proofs.Spelling.SoundParts.{list-is}
 use Rattle.ds_image.specs.Locks.{SeesBody, SeesEntry, SeesNamed, SeesEmpty, block_past, pointer_past, GivesUp, file_itself, item_of_file, dir_itself, sub_block_of_dir}
 use Rattle.ds_plan_base.proofs.GivingWalk.{AreMarked}
 use Rattle.ds_plan_remove.proofs.BlocksSeen.{block-seen}

@@ -11,7 +11,7 @@ use Rattle.ds_plan_laws_gone.specs.Leaving.{go_call}
 use Rattle.ds_image.specs.Objects.{subs_of}
 use Rattle.ds_image.specs.Parts.{Parts}
 use Rattle.ds_image.specs.Planning.{AllAreAllowed, AllAreFew, AllKeep}
-use Rattle.ds_image.specs.Readings.{Reads}
+use Rattle.ds_image.specs.Readings.{ReadsParts}
 use Rattle.ds_image.specs.SeenValues.{SeenValue, look_of}
 use Rattle.ds_image.specs.declared.asks.Ask.{Ask}
 use Rattle.ds_plan_base.specs.Bodies.{dir_of_key}
@@ -37,7 +37,7 @@ use Rattle.ds_tree.specs.CallNames.{HasNames}
 use Rattle.ds_tree.specs.declared.calls.CallOf.{CallOf}
 use Rattle.ds_tree.specs.declared.calls.TreeReply.TheVariants as replies
 
-module _ (g : Geom) (is_geom : IsGeom g) (slot : ℕ) (key : Key) (name : List ℕ) (kind : NodeKind) (seen : SeenValue) (p : Parts) (reads : Reads g (look_of seen) p) where
+module _ (g : Geom) (is_geom : IsGeom g) (slot : ℕ) (key : Key) (name : List ℕ) (kind : NodeKind) (seen : SeenValue) (p : Parts) (reads : ReadsParts g (look_of seen) p) where
   abbrev call : CallOf Key
   call = go_call kind key name
 
@@ -80,7 +80,7 @@ module _ (g : Geom) (is_geom : IsGeom g) (slot : ℕ) (key : Key) (name : List �
 
 -- The laws
 
-asks_of : (plan : RemoveValue) → IsGeom plan.geom → (seen : SeenValue) (p : Parts) → Reads plan.geom (look_of seen) p
+asks_of : (plan : RemoveValue) → IsGeom plan.geom → (seen : SeenValue) (p : Parts) → ReadsParts plan.geom (look_of seen) p
     → PlanAsks plan.geom plan.slot (call_of plan) (MayHold plan.geom plan.dir plan.name plan.kind) (MayRead plan.geom plan.dir plan.name plan.kind) seen p (answers_of plan seen p)
 asks_of plan is seen p reads = remove_asks plan.geom is plan.slot plan.dir plan.name plan.kind seen p reads
 

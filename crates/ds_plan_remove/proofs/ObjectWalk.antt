@@ -21,11 +21,11 @@ use Rattle.ds_plan_laws_gone.specs.Leaving as leaving
 use Rattle.ds_image.specs.Asking.{Agrees}
 use Rattle.ds_image.specs.Objects.{subs_by, ptrs_by, blocks_by, subs_of, ptrs_of, blocks_of, addresses_in, used_rooms, entries_of}
 use Rattle.ds_image.specs.Parts.{Parts, part_at}
-use Rattle.ds_image.specs.Readings.{Reads}
+use Rattle.ds_image.specs.Readings.{ReadsParts}
 use Rattle.ds_image.specs.SeenValues.{SeenValue, look_of}
 use Rattle.ds_image.specs.Sound.{StandsFor}
 use Rattle.ds_image.specs.declared.asks.Ask.{Ask}
-use Rattle.ds_image.proofs.Places.{at-single}
+use Rattle.ds_image.proofs.Spelling.Places.{at-single}
 use Rattle.ds_jrnl.specs.declared.redo.Redo.{Redo}
 use Rattle.ds_layout.specs.Places.{cluster_lock, place_sector}
 use Rattle.ds_layout.specs.declared.places.Place.TheVariants as places
@@ -59,7 +59,7 @@ use Rattle.ds_tree.specs.Steps.{Does}
 use Rattle.ds_tree.specs.declared.calls.CallOf.{CallOf}
 use Rattle.ds_tree.specs.declared.calls.TreeReply.TheVariants as replies
 
-module _ (g : Geom) (is_geom : IsGeom g) (slot : ℕ) (key : Key) (name : List ℕ) (kind : NodeKind) (seen : SeenValue) (p : Parts) (reads : Reads g (look_of seen) p)
+module _ (g : Geom) (is_geom : IsGeom g) (slot : ℕ) (key : Key) (name : List ℕ) (kind : NodeKind) (seen : SeenValue) (p : Parts) (reads : ReadsParts g (look_of seen) p)
     (dir : Body) (has : HasDir g seen p key dir) (is_dir : dir_of_key g seen p key ≡ Ok dir) (f : Found) (is_f : entry_known g seen p dir name kind ≡ Ok f)
     (found : IsFoundIn g seen (subs_of (Some dir)) name (Some f)) (b : Body) (obj : HasObject g seen p kind f.key b) where
   abbrev call : CallOf Key

@@ -19,9 +19,9 @@ use Rattle.ds_fd.specs.declared.body.Body.{Body}
 use Rattle.ds_image.specs.Looks.{Look}
 use Rattle.ds_image.specs.Objects.{subs_by, ptrs_by, subs_of, ptrs_of}
 use Rattle.ds_image.specs.Parts.{Parts, part_at}
-use Rattle.ds_image.specs.Readings.{Reads}
+use Rattle.ds_image.specs.Readings.{ReadsParts}
 use Rattle.ds_image.specs.SeenValues.{SeenValue, has_lock, look_of}
-use Rattle.ds_image.proofs.Sizes.{body_is, part_within}
+use Rattle.ds_image.proofs.Spelling.Sizes.{body_is, part_within}
 use Rattle.ds_layout.specs.Places.{cluster_lock, place_sector}
 use Rattle.ds_layout.specs.declared.places.Place.TheVariants as places
 use Rattle.ds_plan_base.specs.Bodies.{part_seen, body_seen, body_alive, body_of_key, body_of_dir, dir_of_key, sub_seen}
@@ -93,7 +93,7 @@ either k xs ys others one two any = by (list_any (nat_eq k) xs) refl (sym (list_
 
 -- What was known stays known
 
-module _ (g : Geom) (seen next : SeenValue) (p q : Parts) (grows : Grows seen next) (reads : Reads g (look_of seen) p) (reads' : Reads g (look_of next) q) where
+module _ (g : Geom) (seen next : SeenValue) (p q : Parts) (grows : Grows seen next) (reads : ReadsParts g (look_of seen) p) (reads' : ReadsParts g (look_of next) q) where
   part-stays : {V : Type 0} (at : ℕ) (part part' : Option V) (v : V) → (look_of seen at ≡ look_of next at → part ≡ part')
       → part_seen at (look_of seen at) part ≡ Ok v → part_seen at (look_of next at) part' ≡ Ok v
   part-stays at part part' v alike is =
@@ -215,7 +215,7 @@ few-subs_by b (Some kinds.Dir) is kind =
     omega (arith, length-take b.count b.addresses, is.widths.address_count)
 few-subs_by b (Some kinds.File) is kind = omega (arith, length-take (pointer_blocks b.count) b.addresses, is.widths.address_count)
 
-few-listed : (g : Geom) (look : Look) (p : Parts) → Reads g look p → (o : ℕ) (r : Option Body) → part_at p.bodies o ≡ r → length (subs_of r) + length (ptrs_of r) ≤ 96
+few-listed : (g : Geom) (look : Look) (p : Parts) → ReadsParts g look p → (o : ℕ) (r : Option Body) → part_at p.bodies o ≡ r → length (subs_of r) + length (ptrs_of r) ≤ 96
 few-listed g look p reads o None is = omega arith
 few-listed g look p reads o (Some b) is = few-subs_by b b.kind (body_is g look p o b reads is) refl
 
@@ -234,14 +234,14 @@ few-locks_found : (g : Geom) (r : Result Found Stop) → length (locks_found g r
 few-locks_found g (Ok f) = omega arith
 few-locks_found g (Err stop) = omega arith
 
-few-object : (g : Geom) (look : Look) (p : Parts) → Reads g look p → (o : ℕ) → length (object_sectors g p o) ≤ 97
+few-object : (g : Geom) (look : Look) (p : Parts) → ReadsParts g look p → (o : ℕ) → length (object_sectors g p o) ≤ 97
 few-object g look p reads o =
     let r = part_at p.bodies o in
     let subs = map (λ n. place_sector g (places.SubBlock n)) (subs_of r) in
     let ptrs = map (λ n. place_sector g (places.PtrBlock n)) (ptrs_of r) in
     omega (arith, length-append subs ptrs, length-map (subs_of r) (λ n. place_sector g (places.SubBlock n)), length-map (ptrs_of r) (λ n. place_sector g (places.PtrBlock n)), few-listed g look p reads o r refl)
 
-few-sectors_found : (g : Geom) (look : Look) (p : Parts) → Reads g look p → (r : Result Found Stop) → length (sectors_found g p r) ≤ 98
+few-sectors_found : (g : Geom) (look : Look) (p : Parts) → ReadsParts g look p → (r : Result Found Stop) → length (sectors_found g p r) ≤ 98
 few-sectors_found g look p reads (Ok f) = omega (arith, few-object g look p reads f.key.object)
 few-sectors_found g look p reads (Err stop) = omega arith
 
@@ -250,7 +250,7 @@ few-locks g key name kind seen p =
     let r = entry_of_key g seen p key name kind in
     omega (arith, length-append (clusters_held kind) (locks_found g r), few-clusters kind, few-locks_found g r)
 
-pub few-sectors : (g : Geom) (key : Key) (name : List ℕ) (kind : NodeKind) (seen : SeenValue) (p : Parts) → Reads g (look_of seen) p
+pub few-sectors : (g : Geom) (key : Key) (name : List ℕ) (kind : NodeKind) (seen : SeenValue) (p : Parts) → ReadsParts g (look_of seen) p
     → length (sector_list g key name kind seen p) ≤ 255
 few-sectors g key name kind seen p reads =
     let r = entry_of_key g seen p key name kind in

@@ -12,10 +12,10 @@ use Rattle.ds_plan_laws_gone.specs.MapWrites.{MapWrite, map_pair, map_pairs, Cle
 use Rattle.ds_image.specs.Asking.{Agrees}
 use Rattle.ds_image.specs.Parts.{Parts}
 use Rattle.ds_image.specs.Pending.{Pair}
-use Rattle.ds_image.specs.Readings.{Reads}
+use Rattle.ds_image.specs.Readings.{ReadsParts}
 use Rattle.ds_image.specs.SeenValues.{SeenValue, has_lock, look_of}
 use Rattle.ds_image.specs.Sound.{StandsFor}
-use Rattle.ds_image.proofs.Places.{at-append}
+use Rattle.ds_image.proofs.Spelling.Places.{at-append}
 use Rattle.ds_jrnl.specs.declared.redo.Redo.{Redo}
 use Rattle.ds_layout.specs.Places.{cluster_lock, place_sector}
 use Rattle.ds_layout.specs.declared.places.Place.TheVariants as places
@@ -51,7 +51,7 @@ nothing-written g seen given = record {
   rising = λ i j w v l one two. absurd (let wrong : ◌≡◌ {A = Option MapWrite} None (Some w) = one in cc);
 }
 
-module _ (g : Geom) (is_geom : IsGeom g) (seen : SeenValue) (p : Parts) (reads : Reads g (look_of seen) p) (given : Given) where
+module _ (g : Geom) (is_geom : IsGeom g) (seen : SeenValue) (p : Parts) (reads : ReadsParts g (look_of seen) p) (given : Given) where
   -- one kind more, whose bitmaps stand behind those before
   pub more-written : (Done : Kind → Type 0) (most : ℕ) (redo : Redo) (writes : List MapWrite) (kind : Kind) (items : List ℕ) (maps : Maps) → AreWritten g seen given Done most redo writes
       → ¬ Done kind → AreLeft g seen p kind items 0 maps

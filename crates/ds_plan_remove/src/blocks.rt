@@ -4,7 +4,7 @@ ghost use Rattle.ds_base.specs.Geometry.{IsGeom, items_of};
 ghost use Rattle.ds_base.specs.declared.geometry.Kind.TheVariants.{Fd};
 ghost use Rattle.ds_image.specs.Objects.{ptrs_of};
 ghost use Rattle.ds_image.specs.Parts.{Parts};
-ghost use Rattle.ds_image.specs.Readings.{Reads};
+ghost use Rattle.ds_image.specs.Readings.{ReadsParts};
 ghost use Rattle.ds_image.specs.SeenValues.{look_of};
 ghost use Rattle.ds_plan_remove.specs.Blocks.{blocks_known, pointed_in};
 
@@ -18,7 +18,7 @@ use ds_plan_base::{Stop, pointer_block};
 pub fn blocks_known(geom: &Geom, seen: &Seen, file: &Body) -> Result<ArrayVec<u32, 12288>, Stop>
     requires geom { IsGeom geom.now }
     requires inside { file.now.object < items_of geom.now Fd }
-    ensures { (p : Parts) → Reads geom.now (look_of seen.now) p → result ≡ blocks_known geom.now seen.now p file.now }
+    ensures { (p : Parts) → ReadsParts geom.now (look_of seen.now) p → result ≡ blocks_known geom.now seen.now p file.now }
 {
     let count = file.count as usize;
     if count <= 96 {
@@ -35,7 +35,7 @@ pub fn blocks_known(geom: &Geom, seen: &Seen, file: &Body) -> Result<ArrayVec<u3
 fn pointed_in(geom: &Geom, seen: &Seen, file: &Body) -> Result<ArrayVec<u32, 12288>, Stop>
     requires geom { IsGeom geom.now }
     requires inside { file.now.object < items_of geom.now Fd }
-    ensures { (p : Parts) → Reads geom.now (look_of seen.now) p → result ≡ pointed_in geom.now seen.now p file.now }
+    ensures { (p : Parts) → ReadsParts geom.now (look_of seen.now) p → result ≡ pointed_in geom.now seen.now p file.now }
 {
     let mut found = ArrayVec::new();
     for number in ptrs_of(file) {

@@ -4,7 +4,7 @@ ghost use Rattle.ds_base.specs.Geometry.{IsGeom, items_of};
 ghost use Rattle.ds_base.specs.declared.geometry.Kind.TheVariants.{Fd, Sb};
 ghost use Rattle.ds_fd.specs.Body.{IsBody};
 ghost use Rattle.ds_image.specs.Parts.{Parts};
-ghost use Rattle.ds_image.specs.Readings.{Reads};
+ghost use Rattle.ds_image.specs.Readings.{ReadsParts};
 ghost use Rattle.ds_image.specs.SeenValues.{look_of};
 ghost use Rattle.ds_plan_base.specs.Objects.{IsFoundRoom};
 ghost use Rattle.ds_plan_remove.specs.Entries.{body_named, entry_known, is_of};
@@ -25,7 +25,7 @@ pub fn entry_known(
 ) -> Result<Found, Stop>
     requires geom { IsGeom geom.now }
     requires inside { dir.now.object < items_of geom.now Fd }
-    ensures answer { (p : Parts) → Reads geom.now (look_of seen.now) p
+    ensures answer { (p : Parts) → ReadsParts geom.now (look_of seen.now) p
         → result ≡ entry_known geom.now seen.now p dir.now name.now kind }
     ensures is_room { IfOk result IsFoundRoom }
     ensures within { IfOk result (λ found. found.sub < items_of geom.now Sb) }
@@ -48,7 +48,7 @@ pub fn body_named(
 ) -> Result<Body, Stop>
     requires geom { IsGeom geom.now }
     requires sub { sub < items_of geom.now Sb }
-    ensures answer { (p : Parts) → Reads geom.now (look_of seen.now) p
+    ensures answer { (p : Parts) → ReadsParts geom.now (look_of seen.now) p
         → result ≡ body_named geom.now seen.now p kind key.now sub }
     ensures is_body { IfOk result IsBody }
     ensures inside { IfOk result (λ body. body.object < items_of geom.now Fd) }

@@ -5,7 +5,7 @@ ghost use Rattle.ds_base.specs.declared.geometry.Kind.TheVariants.{Fd};
 ghost use Rattle.ds_fd.specs.Body.{IsBody};
 ghost use Rattle.ds_image.specs.Objects.{subs_of};
 ghost use Rattle.ds_image.specs.Parts.{Parts};
-ghost use Rattle.ds_image.specs.Readings.{Reads};
+ghost use Rattle.ds_image.specs.Readings.{ReadsParts};
 ghost use Rattle.ds_image.specs.SeenValues.{look_of};
 ghost use Rattle.ds_plan_remove.specs.Answers.{dir_given, empty_from, ended, file_given, has_entry, nothing, object_given};
 
@@ -23,7 +23,7 @@ use ds_plan_base::{Ending, Stop, give_up, sub_block, subs_of};
 pub fn object_given(geom: &Geom, seen: &Seen, kind: NodeKind, body: &Body) -> Result<Redo, Stop>
     requires geom { IsGeom geom.now }
     requires inside { body.now.object < items_of geom.now Fd }
-    ensures answer { (p : Parts) → Reads geom.now (look_of seen.now) p
+    ensures answer { (p : Parts) → ReadsParts geom.now (look_of seen.now) p
         → result ≡ object_given geom.now seen.now p kind body.now }
     ensures few { IfOk result (λ redo. length redo.pairs.items ≤ 24) }
 {
@@ -36,7 +36,7 @@ pub fn object_given(geom: &Geom, seen: &Seen, kind: NodeKind, body: &Body) -> Re
 fn dir_given(geom: &Geom, seen: &Seen, dir: &Body) -> Result<Redo, Stop>
     requires geom { IsGeom geom.now }
     requires inside { dir.now.object < items_of geom.now Fd }
-    ensures answer { (p : Parts) → Reads geom.now (look_of seen.now) p → result ≡ dir_given geom.now seen.now p dir.now }
+    ensures answer { (p : Parts) → ReadsParts geom.now (look_of seen.now) p → result ≡ dir_given geom.now seen.now p dir.now }
     ensures few { IfOk result (λ redo. length redo.pairs.items ≤ 24) }
 {
     empty_known(geom, seen, dir)?;
@@ -48,7 +48,7 @@ fn dir_given(geom: &Geom, seen: &Seen, dir: &Body) -> Result<Redo, Stop>
 fn file_given(geom: &Geom, seen: &Seen, file: &Body) -> Result<Redo, Stop>
     requires geom { IsGeom geom.now }
     requires inside { file.now.object < items_of geom.now Fd }
-    ensures answer { (p : Parts) → Reads geom.now (look_of seen.now) p → result ≡ file_given geom.now seen.now p file.now }
+    ensures answer { (p : Parts) → ReadsParts geom.now (look_of seen.now) p → result ≡ file_given geom.now seen.now p file.now }
     ensures few { IfOk result (λ redo. length redo.pairs.items ≤ 24) }
 {
     let blocks = blocks_known(geom, seen, file)?;
@@ -62,7 +62,7 @@ fn file_given(geom: &Geom, seen: &Seen, file: &Body) -> Result<Redo, Stop>
 fn empty_known(geom: &Geom, seen: &Seen, dir: &Body) -> Result<Body, Stop>
     requires geom { IsGeom geom.now }
     requires inside { dir.now.object < items_of geom.now Fd }
-    ensures { (p : Parts) → Reads geom.now (look_of seen.now) p
+    ensures { (p : Parts) → ReadsParts geom.now (look_of seen.now) p
         → result ≡ empty_from geom.now seen.now p dir.now (subs_of (Some dir.now)) }
 {
     for number in subs_of(dir) {

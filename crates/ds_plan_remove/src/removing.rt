@@ -4,7 +4,7 @@ ghost use Rattle.ds_base.specs.Geometry.{IsGeom};
 ghost use Rattle.ds_base.specs.Names.{IsName};
 ghost use Rattle.ds_plan_laws_gone.specs.Leaving.{go_call};
 ghost use Rattle.ds_image.specs.Parts.{Parts};
-ghost use Rattle.ds_image.specs.Readings.{Reads};
+ghost use Rattle.ds_image.specs.Readings.{ReadsParts};
 ghost use Rattle.ds_image.specs.SeenValues.{look_of};
 ghost use Rattle.ds_plan_remove.specs.Answers.{answers_of, call_of, change_known, takes_object};
 ghost use Rattle.ds_tree.specs.CallNames.{HasNames};
@@ -83,7 +83,7 @@ impl Remove {
 
     /// What the call needs next by what it has seen, or how it ends.
     pub fn ask(&self, seen: &Seen) -> Ask
-        ensures answer { (p : Parts) → Reads self.now.geom (look_of seen.now) p → result ≡ answers_of self.now seen.now p }
+        ensures answer { (p : Parts) → ReadsParts self.now.geom (look_of seen.now) p → result ≡ answers_of self.now seen.now p }
     {
         match self.change_known(seen) {
             Ok(Removing { redo, key }) => Ask::Change(redo, TreeReply::Gone { key }),
@@ -93,7 +93,7 @@ impl Remove {
 
     /// The change, or what is asked for before it is known.
     fn change_known(&self, seen: &Seen) -> Result<Removing, Stop>
-        ensures answer { (p : Parts) → Reads self.now.geom (look_of seen.now) p
+        ensures answer { (p : Parts) → ReadsParts self.now.geom (look_of seen.now) p
             → result ≡ change_known self.now.geom seen.now p self.now.dir self.now.name self.now.kind }
         ensures geom { IsGeom self.now.geom }
         ensures name { IsName self.now.name }

@@ -31,7 +31,7 @@ use Rattle.ds_image.specs.Asking.{Agrees}
 use Rattle.ds_image.specs.Objects.{subs_by, subs_of, used_rooms, entries_of}
 use Rattle.ds_image.specs.Parts.{Parts, part_at, maps_of}
 use Rattle.ds_image.specs.Pending.{Pair}
-use Rattle.ds_image.specs.Readings.{Reads}
+use Rattle.ds_image.specs.Readings.{ReadsParts}
 use Rattle.ds_image.specs.SeenValues.{SeenValue, look_of}
 use Rattle.ds_image.specs.Sound.{StandsFor}
 use Rattle.ds_layout.proofs.Bounds.{most_items_of}
@@ -85,7 +85,7 @@ subs-as g n a m b true e =
     ap (λ test. if test then sub_pair g n a ∷ sub_pair g m b ∷ [] else sub_pair g m b ∷ sub_pair g n a ∷ []) e
 
 module _ (g : Geom) (is_geom : IsGeom g) (key : Key) (name : List ℕ) (to_key : Key) (fresh : List ℕ) (named : IsName fresh)
-    (seen : SeenValue) (p : Parts) (reads : Reads g (look_of seen) p) (dir : Body) (has : HasDir g seen p key dir) (from : Found) (room : HasFound g seen p dir name (subs_of (Some dir)) from) where
+    (seen : SeenValue) (p : Parts) (reads : ReadsParts g (look_of seen) p) (dir : Body) (has : HasDir g seen p key dir) (from : Found) (room : HasFound g seen p dir name (subs_of (Some dir)) from) where
   abbrev call : CallOf Key
   call = calls.Rename key name to_key fresh
 

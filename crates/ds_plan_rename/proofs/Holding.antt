@@ -7,7 +7,7 @@ use Rattle.ds_base.specs.declared.geometry.Geom.{Geom}
 use Rattle.ds_base.specs.declared.geometry.Kind.TheVariants.{Sb}
 use Rattle.ds_image.specs.Objects.{subs_of}
 use Rattle.ds_image.specs.Parts.{Parts, part_at}
-use Rattle.ds_image.specs.Readings.{Reads}
+use Rattle.ds_image.specs.Readings.{ReadsParts}
 use Rattle.ds_image.specs.SeenValues.{SeenValue, look_of}
 use Rattle.ds_layout.specs.Places.{cluster_lock, place_sector}
 use Rattle.ds_layout.specs.declared.places.Place.TheVariants as places
@@ -32,7 +32,7 @@ holds-stay dir to seen next p q _ the_dir = the_dir
 holds-stay dir to seen next p q _ the_other = the_other
 holds-stay dir to seen next p q _ (a_cluster c l) = a_cluster c l
 
-pub reads-stay : (g : Geom) (dir to : ℕ) (seen next : SeenValue) (p q : Parts) → Grows seen next → Reads g (look_of seen) p → Reads g (look_of next) q
+pub reads-stay : (g : Geom) (dir to : ℕ) (seen next : SeenValue) (p q : Parts) → Grows seen next → ReadsParts g (look_of seen) p → ReadsParts g (look_of next) q
     → (at : ℕ) → MayRead g dir to seen p at → MayRead g dir to next q at
 reads-stay g dir to seen next p q grows reads reads' _ (of_dir at any) = of_dir at (dir-stays g seen next p q grows reads reads' dir at any)
 reads-stay g dir to seen next p q grows reads reads' _ (of_other at any) = of_other at (dir-stays g seen next p q grows reads reads' to at any)
@@ -74,7 +74,7 @@ pub few_locks : (dir to : ℕ) (seen : SeenValue) (p : Parts) → length (lock_l
 few_locks dir to seen p =
     omega (arith, length-append (dir ∷ to ∷ []) cluster_locks, length-map (firsts 8) (λ c. cluster_lock Sb c), length-firsts 8)
 
-pub few_sectors : (g : Geom) (dir to : ℕ) (seen : SeenValue) (p : Parts) → Reads g (look_of seen) p → length (sector_list g dir to seen p) ≤ 255
+pub few_sectors : (g : Geom) (dir to : ℕ) (seen : SeenValue) (p : Parts) → ReadsParts g (look_of seen) p → length (sector_list g dir to seen p) ≤ 255
 few_sectors g dir to seen p reads =
     let subs = subs_of (part_at p.bodies dir) in
     let others = subs_of (part_at p.bodies to) in

@@ -4,7 +4,7 @@ use Rattle.ds_base.specs.Geometry.{IsGeom}
 use Rattle.ds_base.specs.Names.{IsName}
 use Rattle.ds_image.specs.Parts.{Parts}
 use Rattle.ds_image.specs.Planning.{AllAreAllowed, AllAreFew, AllKeep}
-use Rattle.ds_image.specs.Readings.{Reads}
+use Rattle.ds_image.specs.Readings.{ReadsParts}
 use Rattle.ds_image.specs.SeenValues.{SeenValue, look_of}
 use Rattle.ds_image.specs.declared.asks.Ask.{Ask}
 use Rattle.ds_image.specs.Locks.{IsAllowed}
@@ -19,7 +19,7 @@ abbrev AllGood : RenameValue → SeenValue → Parts → Ask → Type 0
 AllGood plan =
     PlanAsks plan.geom plan.slot (call_of plan) (MayHold plan.dir.object plan.to.object) (MayRead plan.geom plan.dir.object plan.to.object)
 
-asks_of : (plan : RenameValue) → IsGeom plan.geom → IsName plan.fresh → (seen : SeenValue) (p : Parts) → Reads plan.geom (look_of seen) p → AllGood plan seen p (answers_of plan seen p)
+asks_of : (plan : RenameValue) → IsGeom plan.geom → IsName plan.fresh → (seen : SeenValue) (p : Parts) → ReadsParts plan.geom (look_of seen) p → AllGood plan seen p (answers_of plan seen p)
 asks_of plan is named seen p reads = rename_asks plan.geom is plan.slot plan.dir plan.name plan.to plan.fresh named seen p reads
 
 pub rename_keeps : (plan : RenameValue) → IsGeom plan.geom → HasNames (call_of plan) → AllKeep plan.geom (call_of plan) (answers_of plan)

@@ -3,7 +3,7 @@ ghost use Rattle.std.specs.Prelude.{◌≡◌, ◌<◌, IfOk};
 ghost use Rattle.ds_base.specs.Geometry.{IsGeom, items_of};
 ghost use Rattle.ds_base.specs.declared.geometry.Kind.TheVariants.{Fd, Sb};
 ghost use Rattle.ds_image.specs.Parts.{Parts};
-ghost use Rattle.ds_image.specs.Readings.{Reads};
+ghost use Rattle.ds_image.specs.Readings.{ReadsParts};
 ghost use Rattle.ds_image.specs.SeenValues.{look_of};
 ghost use Rattle.ds_plan_base.specs.Objects.{IsFoundRoom};
 ghost use Rattle.ds_plan_rename.specs.Entries.{entry_kept};
@@ -24,7 +24,7 @@ pub fn entry_kept(
 ) -> Result<Found, Stop>
     requires geom { IsGeom geom.now }
     requires inside { dir.now.object < items_of geom.now Fd }
-    ensures answer { (p : Parts) → Reads geom.now (look_of seen.now) p
+    ensures answer { (p : Parts) → ReadsParts geom.now (look_of seen.now) p
         → result ≡ entry_kept geom.now seen.now p dir.now name.now fresh.now }
     ensures is_room { IfOk result IsFoundRoom }
     ensures within { IfOk result (λ found. found.sub < items_of geom.now Sb) }

@@ -4,7 +4,7 @@ ghost use Rattle.ds_base.specs.Geometry.{IsGeom, items_of};
 ghost use Rattle.ds_base.specs.Names.{IsName};
 ghost use Rattle.ds_base.specs.declared.geometry.Kind.TheVariants.{Fd, Sb};
 ghost use Rattle.ds_image.specs.Parts.{Parts};
-ghost use Rattle.ds_image.specs.Readings.{Reads};
+ghost use Rattle.ds_image.specs.Readings.{ReadsParts};
 ghost use Rattle.ds_fd.specs.Body.{IsBody};
 ghost use Rattle.ds_image.specs.SeenValues.{IsSeen, look_of};
 ghost use Rattle.ds_plan_rename.specs.Answers.{IsRename, answers_of, call_of, change_known, kept_known, moved_known, other_sub};
@@ -84,7 +84,7 @@ impl Rename {
 
     /// What the call needs next by what it has seen, or how it ends.
     pub fn ask(&self, seen: &Seen) -> Ask
-        ensures answer { (p : Parts) → Reads self.now.geom (look_of seen.now) p → result ≡ answers_of self.now seen.now p }
+        ensures answer { (p : Parts) → ReadsParts self.now.geom (look_of seen.now) p → result ≡ answers_of self.now seen.now p }
     {
         match self.change_known(seen) {
             Ok(Moving { redo, key }) => Ask::Change(redo, TreeReply::Moved { key }),
@@ -94,7 +94,7 @@ impl Rename {
 
     /// The change, or what is asked for before it is known.
     fn change_known(&self, seen: &Seen) -> Result<Moving, Stop>
-        ensures answer { (p : Parts) → Reads self.now.geom (look_of seen.now) p
+        ensures answer { (p : Parts) → ReadsParts self.now.geom (look_of seen.now) p
             → result ≡ change_known self.now.geom self.now.slot seen.now p self.now.dir self.now.name self.now.to self.now.fresh }
         ensures geom { IsGeom self.now.geom }
         ensures name { IsName self.now.name }
@@ -123,7 +123,7 @@ fn kept_known(
 ) -> Result<Moving, Stop>
     requires geom { IsGeom geom.now }
     requires dir { dir.now.object < items_of geom.now Fd }
-    ensures { (p : Parts) → Reads geom.now (look_of seen.now) p
+    ensures { (p : Parts) → ReadsParts geom.now (look_of seen.now) p
         → result ≡ kept_known geom.now seen.now p dir.now name.now fresh.now }
 {
     let from = entry_kept(geom, seen, dir, name, fresh)?;
@@ -150,7 +150,7 @@ fn moved_known(
     requires is_dir { to.now.kind ≡ Some NodeKind.Dir }
     requires from { IsFoundRoom from }
     requires inside { from.sub < items_of geom.now Sb }
-    ensures { (p : Parts) → Reads geom.now (look_of seen.now) p
+    ensures { (p : Parts) → ReadsParts geom.now (look_of seen.now) p
         → result ≡ moved_known geom.now slot seen.now p to.now from fresh.now from.kind }
 {
     if from.kind == NodeKind::Dir {

@@ -16,12 +16,12 @@ use Rattle.ds_fd.specs.declared.body.Body.{Body}
 use Rattle.ds_image.specs.Asking.{Agrees}
 use Rattle.ds_image.specs.Objects.{addresses_in, ptrs_by, ptrs_of}
 use Rattle.ds_image.specs.Parts.{Parts, part_at}
-use Rattle.ds_image.specs.Readings.{Reads}
+use Rattle.ds_image.specs.Readings.{ReadsParts}
 use Rattle.ds_image.specs.SeenValues.{SeenValue, look_of}
 use Rattle.ds_image.specs.Sound.{StandsFor}
 use Rattle.ds_image.specs.declared.asks.Ask.{Ask}
 use Rattle.ds_image.specs.declared.asks.Ask.TheVariants as asks
-use Rattle.ds_image.proofs.Sizes.{body_is}
+use Rattle.ds_image.proofs.Spelling.Sizes.{body_is}
 use Rattle.ds_layout.specs.Places.{place_sector}
 use Rattle.ds_layout.specs.declared.places.Place.TheVariants as places
 use Rattle.ds_plan_base.specs.Bodies.{part_seen}
@@ -71,7 +71,7 @@ pub record HasOld (g : Geom) (seen : SeenValue) (p : Parts) (b : Body) (first : 
   pub seen_at : (j n : ℕ) → slice_get old.list.items j ≡ Some n → block_seen p b (128 * first + j) ≡ Some n
   pub are : (image : List Sector) (t : FileTree) (stands : StandsFor g image t) → Agrees seen image → old.list.items ≡ drop (128 * first) (blocks_in stands.parts b)
 
-module _ (g : Geom) (slot : ℕ) (key : Key) (size : ℕ) (seen : SeenValue) (p : Parts) (reads : Reads g (look_of seen) p) (b : Body) (has : HasFile g seen p key size b) where
+module _ (g : Geom) (slot : ℕ) (key : Key) (size : ℕ) (seen : SeenValue) (p : Parts) (reads : ReadsParts g (look_of seen) p) (b : Body) (has : HasFile g seen p key size b) where
   abbrev Good : Ask → Type 0
   Good = PlanAsks g slot (Resize key size) (MayHold key.object) (MayRead g key.object) seen p
 

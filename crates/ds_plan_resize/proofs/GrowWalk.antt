@@ -22,11 +22,11 @@ use Rattle.ds_layout.specs.Metadata.{IsMetadata}
 use Rattle.ds_image.specs.Owned.{CanMark}
 use Rattle.ds_image.specs.Parts.{Parts, part_at, bits_in}
 use Rattle.ds_image.specs.Pending.{Pair}
-use Rattle.ds_image.specs.Readings.{Reads}
+use Rattle.ds_image.specs.Readings.{ReadsParts}
 use Rattle.ds_image.specs.SeenValues.{SeenValue, has_lock, look_of}
 use Rattle.ds_image.specs.Sound.{StandsFor}
 use Rattle.ds_image.specs.declared.asks.Ask.{Ask}
-use Rattle.ds_image.proofs.Sizes.{body_is}
+use Rattle.ds_image.proofs.Spelling.Sizes.{body_is}
 use Rattle.ds_layout.specs.Places.{cluster_lock, place_sector}
 use Rattle.ds_layout.specs.declared.places.Place.TheVariants as places
 use Rattle.ds_plan_base.proofs.Goes.{Goes}
@@ -81,7 +81,7 @@ pairs-taken : (g : Geom) (kind : Kind) (takes : List Take) → map (take_pair g 
 pairs-taken g kind [] = refl
 pairs-taken g kind (part ∷ takes) = ap (λ l. take_pair g kind part ∷ l) (pairs-taken g kind takes)
 
-module _ (g : Geom) (is_geom : IsGeom g) (slot : ℕ) (key : Key) (size : ℕ) (seen : SeenValue) (p : Parts) (reads : Reads g (look_of seen) p) (b : Body) (has : HasFile g seen p key size b) where
+module _ (g : Geom) (is_geom : IsGeom g) (slot : ℕ) (key : Key) (size : ℕ) (seen : SeenValue) (p : Parts) (reads : ReadsParts g (look_of seen) p) (b : Body) (has : HasFile g seen p key size b) where
   abbrev call : CallOf Key
   call = Resize key size
 

@@ -15,9 +15,9 @@ use Rattle.ds_fd.specs.declared.body.Body.{Body}
 use Rattle.ds_image.specs.Looks.{Look}
 use Rattle.ds_image.specs.Objects.{ptrs_by, ptrs_of}
 use Rattle.ds_image.specs.Parts.{Parts, part_at}
-use Rattle.ds_image.specs.Readings.{Reads}
+use Rattle.ds_image.specs.Readings.{ReadsParts}
 use Rattle.ds_image.specs.SeenValues.{SeenValue, look_of}
-use Rattle.ds_image.proofs.Sizes.{body_is, part_within}
+use Rattle.ds_image.proofs.Spelling.Sizes.{body_is, part_within}
 use Rattle.ds_layout.specs.Places.{cluster_lock, clusters_at, clusters_before, place_sector}
 use Rattle.ds_layout.specs.declared.places.Place.TheVariants as places
 use Rattle.ds_plan_base.proofs.Alike.{body_alike}
@@ -62,7 +62,7 @@ pub holds-stay : (file : ℕ) (seen next : SeenValue) (p q : Parts) (object : �
 holds-stay file seen next p q _ the_file = the_file
 holds-stay file seen next p q _ (a_cluster m l) = a_cluster m l
 
-module _ (g : Geom) (file : ℕ) (seen next : SeenValue) (p q : Parts) (grows : Grows seen next) (reads : Reads g (look_of seen) p) (reads' : Reads g (look_of next) q) where
+module _ (g : Geom) (file : ℕ) (seen next : SeenValue) (p q : Parts) (grows : Grows seen next) (reads : ReadsParts g (look_of seen) p) (reads' : ReadsParts g (look_of next) q) where
   pointer-stays : (n : ℕ) (r : Option Body) → part_at p.bodies file ≡ r → list_any (nat_eq n) (ptrs_of r) ≡ true → list_any (nat_eq n) (ptrs_of (part_at q.bodies file)) ≡ true
   pointer-stays n None is any = absurd (false≢true any)
   pointer-stays n (Some b) is any =
@@ -117,14 +117,14 @@ few_ptrs-by b (Some kinds.Dir) is kind = omega arith
 few_ptrs-by b (Some kinds.File) is kind =
     omega (arith, length-take (pointer_blocks b.count) b.addresses, is.widths.address_count)
 
-few_ptrs : (g : Geom) (look : Look) (p : Parts) (file : ℕ) (r : Option Body) → Reads g look p → part_at p.bodies file ≡ r → length (ptrs_of r) ≤ 96
+few_ptrs : (g : Geom) (look : Look) (p : Parts) (file : ℕ) (r : Option Body) → ReadsParts g look p → part_at p.bodies file ≡ r → length (ptrs_of r) ≤ 96
 few_ptrs g look p file None reads is = omega arith
 few_ptrs g look p file (Some b) reads is = few_ptrs-by b b.kind (body_is g look p file b reads is) refl
 
 pub few_locks : (file : ℕ) (seen : SeenValue) (p : Parts) → length (lock_list file seen p) ≤ 22
 few_locks file seen p = omega (arith, length-map (firsts 16) (λ m. 2064 + m), length-firsts 16)
 
-pub few_sectors : (g : Geom) (file : ℕ) (seen : SeenValue) (p : Parts) → Reads g (look_of seen) p → length (sector_list g file seen p) ≤ 255
+pub few_sectors : (g : Geom) (file : ℕ) (seen : SeenValue) (p : Parts) → ReadsParts g (look_of seen) p → length (sector_list g file seen p) ≤ 255
 few_sectors g file seen p reads =
     let ptrs = ptrs_of (part_at p.bodies file) in
     omega (

@@ -19,12 +19,12 @@ use Rattle.ds_image.specs.Asking.{Agrees}
 use Rattle.ds_image.specs.Owned.{CanMark}
 use Rattle.ds_image.specs.Parts.{Parts, part_at, maps_of, bits_in, used_bits}
 use Rattle.ds_image.specs.Pending.{Pair}
-use Rattle.ds_image.specs.Readings.{Reads}
+use Rattle.ds_image.specs.Readings.{ReadsParts}
 use Rattle.ds_image.specs.SeenValues.{SeenValue, look_of}
 use Rattle.ds_image.specs.Sound.{StandsFor}
 use Rattle.ds_image.specs.declared.asks.Ask.{Ask}
 use Rattle.ds_image.specs.declared.asks.Ask.TheVariants as asks
-use Rattle.ds_image.proofs.Places.{at-append, at-single}
+use Rattle.ds_image.proofs.Spelling.Places.{at-append, at-single}
 use Rattle.ds_layout.specs.Places.{cluster_lock, place_sector}
 use Rattle.ds_layout.specs.declared.places.Place.TheVariants as places
 use Rattle.ds_plan_base.proofs.Goes.{Goes}
@@ -201,7 +201,7 @@ module _ (g : Geom) (slot : ℕ) (seen : SeenValue) (p : Parts) (kind : Kind) (c
 
 -- The walk
 
-module _ (g : Geom) (slot : ℕ) (call : CallOf Key) (MayHold MayRead : SeenValue → Parts → ℕ → Type 0) (seen : SeenValue) (p : Parts) (is_geom : IsGeom g) (reads : Reads g (look_of seen) p)
+module _ (g : Geom) (slot : ℕ) (call : CallOf Key) (MayHold MayRead : SeenValue → Parts → ℕ → Type 0) (seen : SeenValue) (p : Parts) (is_geom : IsGeom g) (reads : ReadsParts g (look_of seen) p)
     (kind : Kind) (count : ℕ)
     (may_hold : (c : ℕ) → c < clusters_of g kind → MayHold seen p (cluster_lock kind c))
     (may_read : (c : ℕ) → c < clusters_of g kind → MayRead seen p (place_sector g (places.Bitmap kind c)))
@@ -288,7 +288,7 @@ module _ (g : Geom) (slot : ℕ) (call : CallOf Key) (MayHold MayRead : SeenValu
   pub items_goes : Goes Good (items_wanted g slot seen p kind count) Known
   items_goes = items_go (clusters_of g kind) 0 (taken_of [] []) (omega arith) (none-taken g slot seen p kind count 0)
 
-module _ (g : Geom) (slot : ℕ) (seen : SeenValue) (p : Parts) (is_geom : IsGeom g) (reads : Reads g (look_of seen) p) (kind : Kind) (count : ℕ) (taken : Taken)
+module _ (g : Geom) (slot : ℕ) (seen : SeenValue) (p : Parts) (is_geom : IsGeom g) (reads : ReadsParts g (look_of seen) p) (kind : Kind) (count : ℕ) (taken : Taken)
     (known : (tried : ℕ) × HasTaken g slot seen p kind count tried taken × (length taken.numbers.items ≡ count)) where
   abbrev tried_by : ℕ → ℕ
   tried_by = cluster_tried g slot kind

@@ -7,7 +7,7 @@ use Rattle.ds_base.specs.declared.geometry.Geom.{Geom}
 use Rattle.ds_base.specs.declared.names.Key.{Key}
 use Rattle.ds_image.specs.Parts.{Parts}
 use Rattle.ds_image.specs.Planning.{AllAreAllowed, AllAreFew, AllKeep}
-use Rattle.ds_image.specs.Readings.{Reads}
+use Rattle.ds_image.specs.Readings.{ReadsParts}
 use Rattle.ds_image.specs.SeenValues.{SeenValue, look_of}
 use Rattle.ds_image.specs.declared.asks.Ask.{Ask}
 use Rattle.ds_plan_base.proofs.Goes.{Goes}
@@ -31,7 +31,7 @@ use Rattle.ds_tree.specs.declared.calls.CallOf.{CallOf}
 use Rattle.ds_tree.specs.declared.calls.CallOf.TheVariants.{Resize}
 use Rattle.ds_tree.specs.declared.calls.TreeReply.TheVariants.{Sized}
 
-module _ (g : Geom) (is_geom : IsGeom g) (slot : ℕ) (key : Key) (size : ℕ) (seen : SeenValue) (p : Parts) (reads : Reads g (look_of seen) p) where
+module _ (g : Geom) (is_geom : IsGeom g) (slot : ℕ) (key : Key) (size : ℕ) (seen : SeenValue) (p : Parts) (reads : ReadsParts g (look_of seen) p) where
   abbrev call : CallOf Key
   call = Resize key size
 
@@ -57,7 +57,7 @@ module _ (g : Geom) (is_geom : IsGeom g) (slot : ℕ) (key : Key) (size : ℕ) (
   resize_asks : Good (changed g size (resize_known g slot seen p key size))
   resize_asks = changed-good (resize_known g slot seen p key size) resize_goes
 
-asks_of : (plan : ResizeValue) → IsGeom plan.geom → (seen : SeenValue) (p : Parts) → Reads plan.geom (look_of seen) p
+asks_of : (plan : ResizeValue) → IsGeom plan.geom → (seen : SeenValue) (p : Parts) → ReadsParts plan.geom (look_of seen) p
     → PlanAsks plan.geom plan.slot (call_of plan) (MayHold plan.file.object) (MayRead plan.geom plan.file.object) seen p (answers_of plan seen p)
 asks_of plan is seen p reads = resize_asks plan.geom is plan.slot plan.file plan.size seen p reads
 

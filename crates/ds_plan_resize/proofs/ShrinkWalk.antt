@@ -24,13 +24,13 @@ use Rattle.ds_image.specs.Objects.{ptrs_by}
 use Rattle.ds_image.specs.Owns.{IsAt}
 use Rattle.ds_image.specs.Parts.{Parts, part_at, bits_in}
 use Rattle.ds_image.specs.Pending.{Pair}
-use Rattle.ds_image.specs.Readings.{Reads}
+use Rattle.ds_image.specs.Readings.{ReadsParts}
 use Rattle.ds_image.specs.SeenValues.{SeenValue, has_lock, look_of}
 use Rattle.ds_image.specs.Sound.{StandsFor, block_lists}
 use Rattle.ds_image.specs.declared.asks.Ask.{Ask}
-use Rattle.ds_image.proofs.Marking.{can-none}
-use Rattle.ds_image.proofs.Places.{at-append, Contains-from_at}
-use Rattle.ds_image.proofs.Sizes.{body_is}
+use Rattle.ds_image.proofs.Ownership.Marking.{can-none}
+use Rattle.ds_image.proofs.Spelling.Places.{at-append, Contains-from_at}
+use Rattle.ds_image.proofs.Spelling.Sizes.{body_is}
 use Rattle.ds_jrnl.specs.declared.redo.Redo.{Redo}
 use Rattle.ds_layout.specs.Places.{cluster_lock, place_sector}
 use Rattle.ds_layout.specs.declared.places.Place.TheVariants as places
@@ -109,7 +109,7 @@ all-joined P xs ys one two i q at = elim (at-append xs ys i q at) [
   | inr back ↦ two back.0 q back.2
 ]
 
-module _ (g : Geom) (is_geom : IsGeom g) (slot : ℕ) (key : Key) (size : ℕ) (seen : SeenValue) (p : Parts) (reads : Reads g (look_of seen) p) (b : Body) (has : HasFile g seen p key size b)
+module _ (g : Geom) (is_geom : IsGeom g) (slot : ℕ) (key : Key) (size : ℕ) (seen : SeenValue) (p : Parts) (reads : ReadsParts g (look_of seen) p) (b : Body) (has : HasFile g seen p key size b)
     (shrinks : size ≤ b.count) where
   abbrev call : CallOf Key
   call = Resize key size

@@ -3,7 +3,7 @@ ghost use Rattle.std.specs.Prelude.{◌≡◌, ◌≤◌, ◌<◌, ◌-◌, ◌*
 ghost use Rattle.ds_base.specs.Geometry.{IsGeom, items_of};
 ghost use Rattle.ds_base.specs.declared.geometry.Kind.TheVariants.{Fd, Pb};
 ghost use Rattle.ds_image.specs.Parts.{Parts};
-ghost use Rattle.ds_image.specs.Readings.{Reads};
+ghost use Rattle.ds_image.specs.Readings.{ReadsParts};
 ghost use Rattle.ds_image.specs.SeenValues.{look_of};
 ghost use Rattle.ds_plan_resize.specs.Blocks.{AreItems, addresses_seen, blocks_seen, pointers_from, pointers_in};
 
@@ -26,7 +26,7 @@ pub fn blocks_seen(geom: &Geom, seen: &Seen, body: &Body, first: usize) -> Resul
     requires few { length (pointers_from body.now first) ≤ 9 }
     requires most { body.now.count ≤ 12288 }
     requires full { 128 * first ≤ body.now.count }
-    ensures answer { (p : Parts) → Reads geom.now (look_of seen.now) p
+    ensures answer { (p : Parts) → ReadsParts geom.now (look_of seen.now) p
         → result ≡ blocks_seen geom.now seen.now p body.now first }
     ensures inside { IfOk result (λ _. AreItems geom.now Pb (pointers_from body.now first)) }
     ensures count { IfOk result (λ blocks. length blocks.list.items ≡ body.now.count - 128 * first) }
@@ -46,7 +46,7 @@ fn addresses_seen(geom: &Geom, seen: &Seen, body: &Body, pointers: &[u32]) -> Re
     requires geom { IsGeom geom.now }
     requires inside { body.now.object < items_of geom.now Fd }
     requires few { length pointers.now ≤ 9 }
-    ensures answer { (p : Parts) → Reads geom.now (look_of seen.now) p
+    ensures answer { (p : Parts) → ReadsParts geom.now (look_of seen.now) p
         → result ≡ addresses_seen geom.now seen.now p body.now [] pointers.now }
     ensures inside { IfOk result (λ _. AreItems geom.now Pb pointers.now) }
     ensures count { IfOk result (λ blocks. length blocks.list.items ≡ 128 * length pointers.now) }

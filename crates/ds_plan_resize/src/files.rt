@@ -3,7 +3,7 @@ ghost use Rattle.std.specs.Prelude.{◌≡◌, IfOk};
 ghost use Rattle.ds_base.specs.Geometry.{IsGeom};
 ghost use Rattle.ds_fd.specs.declared.body.Body.{Body};
 ghost use Rattle.ds_image.specs.Parts.{Parts};
-ghost use Rattle.ds_image.specs.Readings.{Reads};
+ghost use Rattle.ds_image.specs.Readings.{ReadsParts};
 ghost use Rattle.ds_image.specs.SeenValues.{look_of};
 ghost use Rattle.ds_plan_resize.specs.Files.{CanResize, body_of_file, body_to_size, file_to_size};
 
@@ -16,7 +16,7 @@ use ds_plan_base::{Ending, Stop, body_of_key};
 /// knows it.
 pub fn file_to_size(geom: &Geom, seen: &Seen, key: &Key, size: u32) -> Result<Body, Stop>
     requires { IsGeom geom.now }
-    ensures answer { (p : Parts) → Reads geom.now (look_of seen.now) p
+    ensures answer { (p : Parts) → ReadsParts geom.now (look_of seen.now) p
         → result ≡ file_to_size geom.now seen.now p key.now size }
     ensures can { IfOk result (CanResize geom.now size) }
 {

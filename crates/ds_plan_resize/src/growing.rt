@@ -3,7 +3,7 @@ ghost use Rattle.std.specs.Prelude.{◌≡◌, ◌≤◌, ◌+◌, ◌^◌, ◌+
 ghost use Rattle.ds_base.specs.Geometry.{IsGeom};
 ghost use Rattle.ds_bytes.specs.Fields.{AllBelow};
 ghost use Rattle.ds_image.specs.Parts.{Parts};
-ghost use Rattle.ds_image.specs.Readings.{Reads};
+ghost use Rattle.ds_image.specs.Readings.{ReadsParts};
 ghost use Rattle.ds_image.specs.SeenValues.{look_of};
 ghost use Rattle.ds_plan_resize.specs.Blocks.{pointers_in};
 ghost use Rattle.ds_plan_resize.specs.Files.{CanResize};
@@ -32,7 +32,7 @@ pub fn growth_known(
     requires geom { IsGeom geom.now }
     requires can { CanResize geom.now size body.now }
     requires grows { body.now.count ≤ size }
-    ensures answer { (p : Parts) → Reads geom.now (look_of seen.now) p
+    ensures answer { (p : Parts) → ReadsParts geom.now (look_of seen.now) p
         → result ≡ growth_known geom.now slot seen.now p body.now size }
     ensures writable { IfOk result (IsWritable geom.now) }
 {

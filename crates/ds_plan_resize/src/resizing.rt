@@ -2,7 +2,7 @@
 ghost use Rattle.std.specs.Prelude.{◌≡◌, IfOk};
 ghost use Rattle.ds_base.specs.Geometry.{IsGeom};
 ghost use Rattle.ds_image.specs.Parts.{Parts};
-ghost use Rattle.ds_image.specs.Readings.{Reads};
+ghost use Rattle.ds_image.specs.Readings.{ReadsParts};
 ghost use Rattle.ds_image.specs.SeenValues.{look_of};
 ghost use Rattle.ds_plan_resize.specs.Answers.{IsResize, answers_of, call_of, resize_known};
 ghost use Rattle.ds_plan_resize.specs.Writable.{IsWritable};
@@ -59,7 +59,7 @@ impl Resize {
 
     /// What the call needs next by what it has seen, or how it ends.
     pub fn ask(&self, seen: &Seen) -> Ask
-        ensures answer { (p : Parts) → Reads self.now.geom (look_of seen.now) p → result ≡ answers_of self.now seen.now p }
+        ensures answer { (p : Parts) → ReadsParts self.now.geom (look_of seen.now) p → result ≡ answers_of self.now seen.now p }
     {
         match self.resized(seen) {
             Ok(resized) => Ask::Change(
@@ -72,7 +72,7 @@ impl Resize {
 
     /// The file with its new size, or what is asked for before that is known.
     fn resized(&self, seen: &Seen) -> Result<Resized, Stop>
-        ensures answer { (p : Parts) → Reads self.now.geom (look_of seen.now) p
+        ensures answer { (p : Parts) → ReadsParts self.now.geom (look_of seen.now) p
             → result ≡ resize_known self.now.geom self.now.slot seen.now p self.now.file self.now.size }
         ensures writable { IfOk result (IsWritable self.now.geom) }
     {

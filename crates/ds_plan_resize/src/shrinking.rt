@@ -3,7 +3,7 @@ ghost use Rattle.std.specs.Prelude.{◌≡◌, ◌≤◌, ◌%◌, ◌^◌, IfOk
 ghost use Rattle.ds_base.specs.Geometry.{IsGeom};
 ghost use Rattle.ds_bytes.specs.Fields.{AllBelow};
 ghost use Rattle.ds_image.specs.Parts.{Parts};
-ghost use Rattle.ds_image.specs.Readings.{Reads};
+ghost use Rattle.ds_image.specs.Readings.{ReadsParts};
 ghost use Rattle.ds_image.specs.SeenValues.{look_of};
 ghost use Rattle.ds_plan_resize.specs.Blocks.{pointers_in};
 ghost use Rattle.ds_plan_resize.specs.Files.{CanResize};
@@ -26,7 +26,7 @@ pub fn shrink_known(geom: &Geom, seen: &Seen, body: &Body, size: u32) -> Result<
     requires geom { IsGeom geom.now }
     requires can { CanResize geom.now size body.now }
     requires shrinks { size ≤ body.now.count }
-    ensures answer { (p : Parts) → Reads geom.now (look_of seen.now) p
+    ensures answer { (p : Parts) → ReadsParts geom.now (look_of seen.now) p
         → result ≡ shrink_known geom.now seen.now p body.now size }
     ensures writable { IfOk result (IsWritable geom.now) }
 {

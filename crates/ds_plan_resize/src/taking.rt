@@ -4,7 +4,7 @@ ghost use Rattle.ds_base.specs.Geometry.{IsGeom, clusters_of, per_cluster};
 ghost use Rattle.ds_bitmap.specs.Bits.{IsBits};
 ghost use Rattle.ds_image.specs.Owned.{CanMark};
 ghost use Rattle.ds_image.specs.Parts.{Parts};
-ghost use Rattle.ds_image.specs.Readings.{Reads};
+ghost use Rattle.ds_image.specs.Readings.{ReadsParts};
 ghost use Rattle.ds_image.specs.SeenValues.{look_of};
 ghost use Rattle.ds_plan_resize.specs.Taking.{IsTaken, items_wanted, lowest_clear, map_marked, taken_more};
 
@@ -33,7 +33,7 @@ pub fn items_wanted(
 ) -> Result<Taken, Stop>
     requires geom { IsGeom geom.now }
     requires few { count ≤ 1024 }
-    ensures answer { (p : Parts) → Reads geom.now (look_of seen.now) p
+    ensures answer { (p : Parts) → ReadsParts geom.now (look_of seen.now) p
         → result ≡ items_wanted geom.now slot seen.now p kind count }
     ensures taken { IfOk result (IsTaken geom.now kind count) }
 {

@@ -2,7 +2,7 @@
 use Rattle.std.specs.Prelude.{ℕ, zero, suc, List, [], ◌∷◌, ◌++◌, length, codes, decimal, Option, Some, None}
 use Rattle.std.specs.List.{flat_map}
 use Rattle.std.specs.FinMap as maps
-use Rattle.ds_tree.specs.FirstForm.{line}
+use Rattle.ds_text.specs.Lines.{line}
 use Rattle.ds_tree.specs.Nodes.{Node, Dir, File, FileTree, node_at, birth_at}
 use Rattle.ds_report.specs.Answers.{pair_text}
 

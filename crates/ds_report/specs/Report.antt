@@ -1,19 +1,17 @@
 -- The report of a run: a part for each event, the number of changes, and the listing of the file tree.
-use Rattle.std.specs.Prelude.{ℕ, ◌+◌, ◌<◌, ◌==◌, if◌then◌else◌, List, [], ◌++◌, filter, take, reverse, codes, decimal, slice_get, slice_index, Option, Some, None}
-use Rattle.std.specs.List.{flat_map, filter_map, enumerate_from, AllPairs}
+use Rattle.std.specs.Prelude.{ℕ, ◌+◌, ◌==◌, if◌then◌else◌, List, [], ◌++◌, filter, take, reverse, codes, decimal, slice_get, slice_index, Option, Some, None}
+use Rattle.std.specs.List.{flat_map, filter_map, enumerate_from}
 use Rattle.ds_base.specs.declared.commands.Command.TheVariants.{Read}
 use Rattle.ds_base.specs.declared.commands.Response.TheVariants.{Got}
 use Rattle.ds_host.specs.declared.answers.HostAnswer.{HostAnswer}
 use Rattle.ds_host.specs.declared.answers.HostAnswer.TheVariants as answers
 use Rattle.ds_tree.specs.declared.calls.TreeReply.TheVariants as replies
-use Rattle.ds_tree.specs.declared.calls.CallOf.TheVariants as calls
-use Rattle.ds_tree.specs.declared.calls.HostCallOf.{HostCallOf}
 use Rattle.ds_tree.specs.declared.calls.HostCallOf.TheVariants as host_calls
 use Rattle.ds_tree.specs.declared.scenarios.Directive.{Directive}
 use Rattle.ds_tree.specs.declared.scenarios.Directive.TheVariants as directives
 use Rattle.ds_tree.specs.declared.scenarios.Scenario.{Scenario}
-use Rattle.ds_tree.specs.declared.variables.Spoken.{Spoken}
-use Rattle.ds_tree.specs.FirstForm.{line}
+use Rattle.ds_text.specs.Lines.{line}
+use Rattle.ds_tree.specs.CallKinds.{call_word}
 use Rattle.ds_tree.specs.Nodes.{FileTree}
 use Rattle.ds_world.specs.declared.logs.Event.{Event}
 use Rattle.ds_world.specs.declared.logs.Reply.{Reply}
@@ -26,28 +24,6 @@ use Rattle.ds_report.specs.Answers.{answer_text, item_text, place_text}
 use Rattle.ds_report.specs.Hosts.{host_name}
 use Rattle.ds_report.specs.Slots.{slot_line}
 use Rattle.ds_report.specs.Listing.{listing_of}
-
--- the first word of a call's directive; no directive is the call At
-abbrev pub call_word : HostCallOf Spoken → List ℕ
-call_word (host_calls.Tree (calls.Mkdir dir name)) = codes "mkdir"
-call_word (host_calls.Tree (calls.Create dir name)) = codes "create"
-call_word (host_calls.Tree (calls.Lookup dir name)) = codes "lookup"
-call_word (host_calls.Tree (calls.List dir after)) = codes "list"
-call_word (host_calls.Tree (calls.Stat key)) = codes "stat"
-call_word (host_calls.Tree (calls.Map file page)) = codes "map"
-call_word (host_calls.Tree (calls.Resize file blocks)) = codes "resize"
-call_word (host_calls.Tree (calls.Remove dir name)) = codes "remove"
-call_word (host_calls.Tree (calls.Rmdir dir name)) = codes "rmdir"
-call_word (host_calls.Tree (calls.Rename dir name to fresh)) = codes "rename"
-call_word (host_calls.Tree (calls.OpenFile file)) = codes "open"
-call_word (host_calls.Tree (calls.At file index)) = []
-call_word host_calls.Register = codes "register"
-call_word host_calls.Unregister = codes "unregister"
-call_word host_calls.Beat = codes "beat"
-call_word host_calls.Scan = codes "scan"
-call_word (host_calls.Close file) = codes "close"
-call_word (host_calls.Put file sector fill) = codes "put"
-call_word (host_calls.Get file sector) = codes "get"
 
 -- the first word of a call's directive; only calls are answered
 abbrev pub word_of : Option Directive → List ℕ
@@ -109,7 +85,3 @@ parts_of s events replies = flat_map (λ e. event_part s events replies e) (enum
 -- the report of a run of a scenario that ended with this tree
 abbrev pub report_of : Scenario → List Event → List Reply → FileTree → List ℕ
 report_of s events replies t = parts_of s events replies ++ line (codes "changes " ++ decimal (change_count events)) ++ listing_of t
-
--- each reply is given in a later event than the one before
-abbrev pub AreInOrder : List Reply → Type 0
-AreInOrder replies = AllPairs (λ r q. r.event < q.event) replies

@@ -4,21 +4,22 @@ ghost use Rattle.std.specs.List.{flat_map};
 ghost use Rattle.ds_marks.specs.Slot.{breaker_of, breaker_generation_of};
 ghost use Rattle.ds_report.specs.Answers.{answer_text, busy_text, spot_text, pair_text, tree_text, no_space_text, key_text, kind_text, entry_text, item_text, place_text};
 
-use crate::growing::Growing;
+use crate::pairs::{write_key_pair, write_pair};
 use ds_base::{Key, Kind, Name, NoMemory, NodeKind, Tick};
 use ds_host::{HostAnswer, Spot};
 use ds_lock::How;
 use ds_marks::SlotState;
+use ds_text::Text;
 use ds_tree::TreeReply;
 
-pub(crate) fn write_answer(text: &mut Growing, answer: &HostAnswer) -> Result<(), NoMemory>
+pub(crate) fn write_answer(text: &mut Text, answer: &HostAnswer) -> Result<(), NoMemory>
     ensures { OnOk result (text.new ≡ text.old ++ answer_text answer.now) }
 {
     match answer {
         HostAnswer::Tree(reply) => write_reply(text, reply),
         HostAnswer::Registered { slot, generation } => {
             text.bytes(b"ok ")?;
-            text.pair(u64::from(*slot), *generation)
+            write_pair(text, u64::from(*slot), *generation)
         }
         HostAnswer::Plain => text.bytes(b"ok"),
         HostAnswer::BadName => text.bytes(b"bad-name"),
@@ -46,7 +47,7 @@ pub(crate) fn write_answer(text: &mut Growing, answer: &HostAnswer) -> Result<()
     }
 }
 
-fn write_busy(text: &mut Growing, spot: Spot, how: &How) -> Result<(), NoMemory>
+fn write_busy(text: &mut Text, spot: Spot, how: &How) -> Result<(), NoMemory>
     ensures { OnOk result (text.new ≡ text.old ++ busy_text spot how.now) }
 {
     match how {
@@ -54,13 +55,13 @@ fn write_busy(text: &mut Growing, spot: Spot, how: &How) -> Result<(), NoMemory>
             text.bytes(b"busy held ")?;
             write_spot(text, spot)?;
             text.bytes(b" ")?;
-            text.pair(u64::from(*slot), image.generation)
+            write_pair(text, u64::from(*slot), image.generation)
         }
         How::Recovering { slot, image, .. } => {
             text.bytes(b"busy recovering ")?;
             write_spot(text, spot)?;
             text.bytes(b" ")?;
-            text.pair(u64::from(*slot), image.generation)?;
+            write_pair(text, u64::from(*slot), image.generation)?;
             text.bytes(b" ")?;
             write_breaker(text, image.state)
         }
@@ -71,7 +72,7 @@ fn write_busy(text: &mut Growing, spot: Spot, how: &How) -> Result<(), NoMemory>
     }
 }
 
-fn write_spot(text: &mut Growing, spot: Spot) -> Result<(), NoMemory>
+fn write_spot(text: &mut Text, spot: Spot) -> Result<(), NoMemory>
     ensures { OnOk result (text.new ≡ text.old ++ spot_text spot) }
 {
     match spot {
@@ -84,16 +85,16 @@ fn write_spot(text: &mut Growing, spot: Spot) -> Result<(), NoMemory>
 }
 
 /// The breaker that a slot's image names.
-fn write_breaker(text: &mut Growing, state: SlotState) -> Result<(), NoMemory>
+fn write_breaker(text: &mut Text, state: SlotState) -> Result<(), NoMemory>
     ensures { OnOk result (text.new ≡ text.old ++ pair_text (breaker_of state) (breaker_generation_of state)) }
 {
     match state {
-        SlotState::Breaking { by, by_generation } => text.pair(u64::from(by), by_generation),
-        SlotState::Free | SlotState::Live => text.pair(0, 0),
+        SlotState::Breaking { by, by_generation } => write_pair(text, u64::from(by), by_generation),
+        SlotState::Free | SlotState::Live => write_pair(text, 0, 0),
     }
 }
 
-fn write_ticks(text: &mut Growing, now: Tick, last: Tick) -> Result<(), NoMemory>
+fn write_ticks(text: &mut Text, now: Tick, last: Tick) -> Result<(), NoMemory>
     ensures { OnOk result (text.new ≡ text.old ++ (decimal now ++ codes " " ++ decimal last)) }
 {
     text.number(now)?;
@@ -102,7 +103,7 @@ fn write_ticks(text: &mut Growing, now: Tick, last: Tick) -> Result<(), NoMemory
 }
 
 pub(crate) fn write_place(
-    text: &mut Growing,
+    text: &mut Text,
     answer: &HostAnswer,
     place: Option<u32>,
 ) -> Result<(), NoMemory>
@@ -117,7 +118,7 @@ pub(crate) fn write_place(
     }
 }
 
-fn write_reply(text: &mut Growing, reply: &TreeReply) -> Result<(), NoMemory>
+fn write_reply(text: &mut Text, reply: &TreeReply) -> Result<(), NoMemory>
     ensures { OnOk result (text.new ≡ text.old ++ tree_text reply.now) }
 {
     match reply {
@@ -145,21 +146,21 @@ fn write_reply(text: &mut Growing, reply: &TreeReply) -> Result<(), NoMemory>
     }
 }
 
-fn write_key(text: &mut Growing, key: Key) -> Result<(), NoMemory>
+fn write_key(text: &mut Text, key: Key) -> Result<(), NoMemory>
     ensures { OnOk result (text.new ≡ text.old ++ (codes "ok " ++ key_text key)) }
 {
     text.bytes(b"ok ")?;
-    text.key(key)
+    write_key_pair(text, key)
 }
 
-fn write_number(text: &mut Growing, number: u32) -> Result<(), NoMemory>
+fn write_number(text: &mut Text, number: u32) -> Result<(), NoMemory>
     ensures { OnOk result (text.new ≡ text.old ++ (codes "ok " ++ decimal number)) }
 {
     text.bytes(b"ok ")?;
     text.number(u64::from(number))
 }
 
-fn write_found(text: &mut Growing, key: Key, kind: NodeKind) -> Result<(), NoMemory>
+fn write_found(text: &mut Text, key: Key, kind: NodeKind) -> Result<(), NoMemory>
     ensures { OnOk result (text.new ≡ text.old ++ (codes "ok " ++ key_text key ++ codes " " ++ kind_text kind)) }
 {
     write_key(text, key)?;
@@ -167,7 +168,7 @@ fn write_found(text: &mut Growing, key: Key, kind: NodeKind) -> Result<(), NoMem
     text.bytes(kind_word(kind))
 }
 
-fn write_info(text: &mut Growing, kind: NodeKind, size: u32) -> Result<(), NoMemory>
+fn write_info(text: &mut Text, kind: NodeKind, size: u32) -> Result<(), NoMemory>
     ensures { OnOk result (text.new ≡ text.old ++ (codes "ok " ++ kind_text kind ++ codes " " ++ decimal size)) }
 {
     text.bytes(b"ok ")?;
@@ -176,11 +177,7 @@ fn write_info(text: &mut Growing, kind: NodeKind, size: u32) -> Result<(), NoMem
     text.number(u64::from(size))
 }
 
-pub(crate) fn write_page(
-    text: &mut Growing,
-    total: u32,
-    names: &[(Name, Key)],
-) -> Result<(), NoMemory>
+pub(crate) fn write_page(text: &mut Text, total: u32, names: &[(Name, Key)]) -> Result<(), NoMemory>
     ensures { OnOk result (text.new ≡ text.old ++ (codes "ok " ++ decimal total ++ flat_map entry_text names.now)) }
 {
     write_number(text, total)?;
@@ -190,16 +187,16 @@ pub(crate) fn write_page(
     Ok(())
 }
 
-fn write_entry(text: &mut Growing, name: &Name, key: Key) -> Result<(), NoMemory>
+fn write_entry(text: &mut Text, name: &Name, key: Key) -> Result<(), NoMemory>
     ensures { OnOk result (text.new ≡ text.old ++ entry_text (name.now, key)) }
 {
     text.bytes(b" ")?;
     text.bytes(name.bytes())?;
     text.bytes(b"=")?;
-    text.key(key)
+    write_key_pair(text, key)
 }
 
-fn write_blocks(text: &mut Growing, blocks: &[u32]) -> Result<(), NoMemory>
+fn write_blocks(text: &mut Text, blocks: &[u32]) -> Result<(), NoMemory>
     ensures { OnOk result (text.new ≡ text.old ++ (codes "ok" ++ flat_map item_text blocks.now)) }
 {
     text.bytes(b"ok")?;
@@ -209,7 +206,7 @@ fn write_blocks(text: &mut Growing, blocks: &[u32]) -> Result<(), NoMemory>
     Ok(())
 }
 
-pub(crate) fn write_item(text: &mut Growing, number: u32) -> Result<(), NoMemory>
+pub(crate) fn write_item(text: &mut Text, number: u32) -> Result<(), NoMemory>
     ensures { OnOk result (text.new ≡ text.old ++ item_text number) }
 {
     text.bytes(b" ")?;

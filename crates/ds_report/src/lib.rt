@@ -3,9 +3,9 @@
 
 mod answers;
 mod changes;
-mod growing;
 mod hosts;
 mod listings;
+mod pairs;
 mod reads;
 mod replies;
 mod reports;

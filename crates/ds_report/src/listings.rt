@@ -2,13 +2,14 @@
 ghost use Rattle.std.specs.Prelude.{◌≡◌, ◌++◌, OnOk, IfOk, codes, decimal, length};
 ghost use Rattle.std.specs.List.{flat_map};
 ghost use Rattle.std.specs.FinMap as maps;
-ghost use Rattle.ds_tree.specs.FirstForm.{line};
+ghost use Rattle.ds_text.specs.Lines.{line};
 ghost use Rattle.ds_tree.specs.Nodes.{node_at, blocks_of};
 ghost use Rattle.ds_tree.specs.Trees.{entries_of};
 ghost use Rattle.ds_report.specs.Listing.{listing_of, listing_below, shown_path, path_in, key_text_at};
 
-use crate::growing::Growing;
+use crate::pairs::write_key_pair;
 use ds_base::{Key, Name, NoMemory, NodeKind, ObjNo};
+use ds_text::Text;
 use ds_tree::Tree;
 use std::alloc::Global;
 
@@ -16,12 +17,12 @@ use std::alloc::Global;
 pub fn listing(alloc: Global, tree: &Tree) -> Result<Vec<u8>, NoMemory>
     ensures { IfOk result (λ text. text.items ≡ listing_of tree.now.tree) }
 {
-    let mut text = Growing::new(alloc);
+    let mut text = Text::new(alloc);
     write_listing(&mut text, alloc, tree)?;
     Ok(text.into_bytes())
 }
 
-pub(crate) fn write_listing(text: &mut Growing, alloc: Global, tree: &Tree) -> Result<(), NoMemory>
+pub(crate) fn write_listing(text: &mut Text, alloc: Global, tree: &Tree) -> Result<(), NoMemory>
     ensures { OnOk result (text.new ≡ text.old ++ listing_of tree.now.tree) }
 {
     write_below(text, alloc, tree, &[], 0, tree.object_count())
@@ -30,7 +31,7 @@ pub(crate) fn write_listing(text: &mut Growing, alloc: Global, tree: &Tree) -> R
 /// The lines of an object and of all below it, so many levels at most.
 #[cycle(below)]
 fn write_below(
-    text: &mut Growing,
+    text: &mut Text,
     alloc: Global,
     tree: &Tree,
     path: &[u8],
@@ -55,7 +56,7 @@ fn write_below(
 /// The lines of the entries of a directory, each with all below it.
 #[cycle(below)]
 fn write_entries(
-    text: &mut Growing,
+    text: &mut Text,
     alloc: Global,
     tree: &Tree,
     path: &[u8],
@@ -75,7 +76,7 @@ fn write_entries(
     Ok(())
 }
 
-fn write_file(text: &mut Growing, tree: &Tree, path: &[u8], object: ObjNo) -> Result<(), NoMemory>
+fn write_file(text: &mut Text, tree: &Tree, path: &[u8], object: ObjNo) -> Result<(), NoMemory>
     ensures { OnOk result (text.new ≡ text.old ++ line (shown_path path.now ++ codes " " ++ key_text_at tree.now.tree object
         ++ codes " file " ++ decimal (length (blocks_of (node_at tree.now.tree object))))) }
 {
@@ -85,7 +86,7 @@ fn write_file(text: &mut Growing, tree: &Tree, path: &[u8], object: ObjNo) -> Re
     text.bytes(b"\n")
 }
 
-fn write_dir(text: &mut Growing, tree: &Tree, path: &[u8], object: ObjNo) -> Result<(), NoMemory>
+fn write_dir(text: &mut Text, tree: &Tree, path: &[u8], object: ObjNo) -> Result<(), NoMemory>
     ensures { OnOk result (text.new ≡ text.old
         ++ line (shown_path path.now ++ codes " " ++ key_text_at tree.now.tree object ++ codes " dir")) }
 {
@@ -94,13 +95,13 @@ fn write_dir(text: &mut Growing, tree: &Tree, path: &[u8], object: ObjNo) -> Res
 }
 
 /// The path and the key of an object.
-fn write_path(text: &mut Growing, tree: &Tree, path: &[u8], object: ObjNo) -> Result<(), NoMemory>
+fn write_path(text: &mut Text, tree: &Tree, path: &[u8], object: ObjNo) -> Result<(), NoMemory>
     ensures { OnOk result (text.new ≡ text.old ++ (shown_path path.now ++ codes " " ++ key_text_at tree.now.tree object)) }
 {
     text.bytes(shown_path(path))?;
     text.bytes(b" ")?;
     let birth = tree.birth(object);
-    text.key(Key { object, birth })
+    write_key_pair(text, Key { object, birth })
 }
 
 fn shown_path(path: &[u8]) -> &[u8]
@@ -112,7 +113,7 @@ fn shown_path(path: &[u8]) -> &[u8]
 fn path_in(alloc: Global, dir: &[u8], name: &Name) -> Result<Vec<u8>, NoMemory>
     ensures { IfOk result (λ path. path.items ≡ path_in dir.now name.now) }
 {
-    let mut path = Growing::new(alloc);
+    let mut path = Text::new(alloc);
     path.bytes(dir)?;
     path.bytes(b"/")?;
     path.bytes(name.bytes())?;

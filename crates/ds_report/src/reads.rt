@@ -3,15 +3,15 @@ ghost use Rattle.std.specs.Prelude.{◌≡◌, ◌++◌, OnOk, option_copied};
 ghost use Rattle.ds_report.specs.Report.{read_text, got_text, byte_read, byte_of};
 
 use crate::answers::write_item;
-use crate::growing::Growing;
 use ds_base::{Command, HostNo, NoMemory, Response};
 use ds_host::HostAnswer;
+use ds_text::Text;
 use ds_tree::{Directive, HostCallOf, TreeReply};
 use ds_world::{Event, Reply, Step};
 
 /// Writes the byte that a `get` read, after a blank. The events are those up to the reply.
 pub(crate) fn write_read(
-    text: &mut Growing,
+    text: &mut Text,
     directive: Option<&Directive>,
     past: &[Event],
     reply: &Reply,
@@ -29,7 +29,7 @@ pub(crate) fn write_read(
     }
 }
 
-fn write_got(text: &mut Growing, past: &[Event], reply: &Reply) -> Result<(), NoMemory>
+fn write_got(text: &mut Text, past: &[Event], reply: &Reply) -> Result<(), NoMemory>
     ensures { OnOk result (text.new ≡ text.old
         ++ got_text reply.now.answer (byte_read past.now reply.now.host reply.now.directive)) }
 {

@@ -1,19 +1,19 @@
 //! The lines of replies.
 ghost use Rattle.std.specs.Prelude.{◌≡◌, ◌++◌, OnOk, option_copied};
 ghost use Rattle.ds_world.specs.Scripts.{directive_at};
-ghost use Rattle.ds_report.specs.Report.{reply_line, directive_text, outcome_text, word_of, call_word};
+ghost use Rattle.ds_report.specs.Report.{reply_line, directive_text, outcome_text, word_of};
 
 use crate::answers::{write_answer, write_place};
-use crate::growing::Growing;
 use crate::hosts::host_name;
 use crate::reads::write_read;
 use ds_base::{HostNo, NoMemory};
-use ds_tree::{CallOf, Directive, HostCallOf, Scenario, Spoken};
+use ds_text::Text;
+use ds_tree::{Directive, Scenario, call_word};
 use ds_world::{Event, Reply};
 
 /// Writes the line of a reply. The events are those up to the reply.
 pub(crate) fn write_line(
-    text: &mut Growing,
+    text: &mut Text,
     scenario: &Scenario,
     past: &[Event],
     reply: &Reply,
@@ -33,7 +33,7 @@ pub(crate) fn write_line(
 
 /// The host, the number and the first word of a directive, each with a blank after it.
 fn write_directive(
-    text: &mut Growing,
+    text: &mut Text,
     host: &[u8],
     number: u32,
     directive: Option<&Directive>,
@@ -51,7 +51,7 @@ fn write_directive(
 
 /// The answer, the byte that was read and the place.
 fn write_outcome(
-    text: &mut Growing,
+    text: &mut Text,
     directive: Option<&Directive>,
     past: &[Event],
     reply: &Reply,
@@ -79,41 +79,7 @@ fn word(directive: Option<&Directive>) -> &'static [u8]
     ensures { result.now ≡ word_of (option_copied directive.entry) }
 {
     match directive {
-        Some(Directive::Call { call, .. }) => host_word(call),
+        Some(Directive::Call { call, .. }) => call_word(call),
         _ => b"",
-    }
-}
-
-fn host_word(call: &HostCallOf<Spoken>) -> &'static [u8]
-    ensures { result.now ≡ call_word call.now }
-{
-    match call {
-        HostCallOf::Tree(call) => tree_word(call),
-        HostCallOf::Register => b"register",
-        HostCallOf::Unregister => b"unregister",
-        HostCallOf::Beat => b"beat",
-        HostCallOf::Scan => b"scan",
-        HostCallOf::Close { .. } => b"close",
-        HostCallOf::Put { .. } => b"put",
-        HostCallOf::Get { .. } => b"get",
-    }
-}
-
-fn tree_word(call: &CallOf<Spoken>) -> &'static [u8]
-    ensures { result.now ≡ call_word (HostCallOf.Tree call.now) }
-{
-    match call {
-        CallOf::Mkdir { .. } => b"mkdir",
-        CallOf::Create { .. } => b"create",
-        CallOf::Lookup { .. } => b"lookup",
-        CallOf::List { .. } => b"list",
-        CallOf::Stat { .. } => b"stat",
-        CallOf::Map { .. } => b"map",
-        CallOf::Resize { .. } => b"resize",
-        CallOf::Remove { .. } => b"remove",
-        CallOf::Rmdir { .. } => b"rmdir",
-        CallOf::Rename { .. } => b"rename",
-        CallOf::OpenFile { .. } => b"open",
-        CallOf::At { .. } => b"",
     }
 }

@@ -2,27 +2,27 @@
 ghost use Rattle.std.specs.Prelude.{◌≡◌, ◌+◌, ◌<◌, ◌++◌, length, take, OnOk, IfOk, codes, decimal};
 ghost use Rattle.std.specs.List.{flat_map};
 ghost use Rattle.ds_base.specs.Geometry.{IsGeom};
+ghost use Rattle.ds_world.specs.Logged.{AreInOrder};
 ghost use Rattle.ds_world.specs.Store.{change_count};
 ghost use Rattle.ds_world.specs.declared.logs.Event.{Event};
 ghost use Rattle.ds_report.specs.Turns.{TellsTurns};
-ghost use Rattle.ds_report.specs.Report.{AreInOrder, report_of, parts_of, given_in, death_line, reply_line};
-ghost use Rattle.ds_tree.specs.FirstForm.{line};
+ghost use Rattle.ds_report.specs.Report.{report_of, parts_of, given_in, death_line, reply_line};
+ghost use Rattle.ds_text.specs.Lines.{line};
 
 use crate::changes::is_change;
-use crate::growing::Growing;
 use crate::hosts::host_name;
 use crate::listings::write_listing;
 use crate::replies::write_line;
 use crate::slots::write_slot_line;
 use ds_base::NoMemory;
+use ds_text::Text;
 use ds_tree::{Scenario, Tree};
 use ds_world::{Event, Log, Reply};
 use std::alloc::Global;
 
 /// The report of a run of this scenario, from the log of the run and the tree that it left.
 pub fn text(alloc: Global, scenario: &Scenario, log: &Log, tree: &Tree) -> Result<Vec<u8>, NoMemory>
-    requires geometry { IsGeom scenario.now.geom }
-    requires order { AreInOrder log.now.replies }
+    requires { IsGeom scenario.now.geom }
     ensures report { IfOk result (λ text. text.items ≡ report_of scenario.now log.now.events log.now.replies tree.now.tree) }
     ensures turns { (event : Event) → TellsTurns scenario.now event }
 {
@@ -41,14 +41,14 @@ pub(crate) fn whole(
     requires order { AreInOrder replies.now }
     ensures { IfOk result (λ text. text.items ≡ report_of scenario.now events.now replies.now tree.now.tree) }
 {
-    let mut text = Growing::new(alloc);
+    let mut text = Text::new(alloc);
     write_parts(&mut text, scenario, events, replies)?;
     write_changes(&mut text, events)?;
     write_listing(&mut text, alloc, tree)?;
     Ok(text.into_bytes())
 }
 
-fn write_changes(text: &mut Growing, events: &[Event]) -> Result<(), NoMemory>
+fn write_changes(text: &mut Text, events: &[Event]) -> Result<(), NoMemory>
     ensures { OnOk result (text.new ≡ text.old ++ line (codes "changes " ++ decimal (change_count events.now))) }
 {
     let changes = events.iter().filter(|event| is_change(&event.step)).count();
@@ -58,7 +58,7 @@ fn write_changes(text: &mut Growing, events: &[Event]) -> Result<(), NoMemory>
 }
 
 fn write_parts(
-    text: &mut Growing,
+    text: &mut Text,
     scenario: &Scenario,
     events: &[Event],
     replies: &[Reply],
@@ -79,7 +79,7 @@ fn write_parts(
 /// Writes the line of the first of these replies if it is given in the event with this number, and says how many lines
 /// were written.
 fn write_reply_in(
-    text: &mut Growing,
+    text: &mut Text,
     scenario: &Scenario,
     events: &[Event],
     replies: &[Reply],
@@ -99,7 +99,7 @@ fn write_reply_in(
     }
 }
 
-fn write_death(text: &mut Growing, scenario: &Scenario, event: &Event) -> Result<(), NoMemory>
+fn write_death(text: &mut Text, scenario: &Scenario, event: &Event) -> Result<(), NoMemory>
     ensures { OnOk result (text.new ≡ text.old ++ death_line scenario.now event.now) }
 {
     if !event.dies {

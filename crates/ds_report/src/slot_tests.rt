@@ -1,14 +1,14 @@
 //! Reports of hosts that die, are broken and are replaced, and of what is read.
 ghost use Rattle.std.specs.Prelude.{◌≡◌};
-ghost use Rattle.ds_report.specs.Report.{AreInOrder};
+ghost use Rattle.ds_world.specs.Logged.{AreInOrder};
 
 use crate::answers::write_answer;
-use crate::growing::Growing;
 use crate::reports::whole;
 use ds_base::{Command, Gen, Geom, Key, NodeKind, Response, Sector, SlotNo, Word};
 use ds_host::{HostAnswer, Spot};
 use ds_lock::How;
 use ds_marks::{Journal, Slot, SlotState};
+use ds_text::Text;
 use ds_tree::{
     CallOf, Directive, HostCallOf, HostPlan, Items, Point, Scenario, Spoken, Tree, TreeReply,
 };
@@ -78,7 +78,7 @@ fn a_busy_answer_tells_what_is_busy_and_how(rt: HostRuntime) -> Result<(), Fail>
         (busy(Spot::Slot(3), How::Raced), b"busy raced slot-3"),
     ];
     for (answer, want) in &table {
-        let mut text = Growing::new(rt.alloc());
+        let mut text = Text::new(rt.alloc());
         write_answer(&mut text, answer)?;
         assert_eq!(rt; text.into_bytes().as_slice(), *want);
     }
@@ -339,7 +339,7 @@ fn what_became_of_a_slot_comes_first_and_a_death_last(rt: HostRuntime) -> Result
         (SlotState::Live, SlotState::Free, b""),
     ];
     for (before, after, want) in table {
-        let mut text = Growing::new(alloc);
+        let mut text = Text::new(alloc);
         text.bytes(want)?;
         text.bytes(b"c 5 scan ok\nc dies\nchanges 0\n/ 0.1 dir\n")?;
         assert_told(

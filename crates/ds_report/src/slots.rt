@@ -6,17 +6,18 @@ ghost use Rattle.ds_marks.specs.Slot.{IsSlot, slot_bytes};
 ghost use Rattle.ds_marks.specs.SlotIn.{slot_in};
 ghost use Rattle.ds_report.specs.Slots.{slot_at, turn_word, turn_line, swap_line, slot_line};
 
-use crate::growing::Growing;
 use crate::hosts::host_name;
+use crate::pairs::write_pair;
 use ds_base::{Command, Gen, Geom, NoMemory, Sector, SectorNo, SlotNo};
 use ds_layout::{Place, place_of};
 use ds_marks::{Slot, SlotState};
+use ds_text::Text;
 use ds_tree::Scenario;
 use ds_world::{Event, Step};
 
 /// Writes what an event did to a slot, if it did anything: one was broken, seized or freed.
 pub(crate) fn write_slot_line(
-    text: &mut Growing,
+    text: &mut Text,
     scenario: &Scenario,
     event: &Event,
 ) -> Result<(), NoMemory>
@@ -48,7 +49,7 @@ fn slot_at(geom: &Geom, at: SectorNo) -> Option<SlotNo>
 }
 
 fn write_swap(
-    text: &mut Growing,
+    text: &mut Text,
     host: &[u8],
     slot: SlotNo,
     verify: Sector,
@@ -95,7 +96,7 @@ fn turn_word(before: SlotState, after: SlotState) -> Option<&'static [u8]>
 }
 
 fn write_turn(
-    text: &mut Growing,
+    text: &mut Text,
     host: &[u8],
     word: &[u8],
     slot: SlotNo,
@@ -107,6 +108,6 @@ fn write_turn(
     text.bytes(b" ")?;
     text.bytes(word)?;
     text.bytes(b" ")?;
-    text.pair(u64::from(slot), generation)?;
+    write_pair(text, u64::from(slot), generation)?;
     text.bytes(b"\n")
 }

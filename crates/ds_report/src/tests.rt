@@ -3,12 +3,12 @@ ghost use Rattle.ds_base.specs.Names.{IsName};
 ghost use Rattle.ds_tree.specs.CallNames.{HasNames};
 
 use crate::answers::{write_answer, write_page};
-use crate::growing::Growing;
 use crate::listing;
 use crate::reports::{text, whole};
 use arrayvec::ArrayVec;
 use ds_base::{Command, Geom, Key, Kind, Name, NodeKind, Response, Sector, Word};
 use ds_host::HostAnswer;
+use ds_text::Text;
 use ds_tree::{
     Call, CallOf, Directive, HostCallOf, HostPlan, Items, Scenario, Spoken, Tree, TreeReply,
 };
@@ -130,11 +130,11 @@ fn each_answer_has_its_text(rt: HostRuntime) -> Result<(), Fail> {
         (HostAnswer::Tree(TreeReply::NoBlock), b"no-block"),
     ];
     for (answer, want) in &table {
-        let mut text = Growing::new(rt.alloc());
+        let mut text = Text::new(rt.alloc());
         write_answer(&mut text, answer)?;
         assert_eq!(rt; text.into_bytes().as_slice(), *want);
     }
-    let mut page = Growing::new(rt.alloc());
+    let mut page = Text::new(rt.alloc());
     write_page(
         &mut page,
         40,
@@ -333,7 +333,7 @@ fn a_report_has_a_part_for_each_event(rt: HostRuntime) -> Result<(), Fail> {
     let tree = tree(&rt, alloc)?;
     let scenario = scenario(&rt, alloc)?;
     assert!(rt; scenario.geom.check().is_ok());
-    let mut want = Growing::new(alloc);
+    let mut want = Text::new(alloc);
     want.bytes(PARTS)?;
     want.bytes(LISTING)?;
     let report = whole(alloc, &scenario, &events, &replies, &tree)?;
@@ -348,7 +348,7 @@ fn a_report_without_events_has_the_count_of_changes_and_the_tree(
 ) -> Result<(), Fail> {
     let alloc = rt.alloc();
     let tree = tree(&rt, alloc)?;
-    let mut want = Growing::new(alloc);
+    let mut want = Text::new(alloc);
     want.bytes(b"changes 0\n")?;
     want.bytes(LISTING)?;
     let scenario = scenario(&rt, alloc)?;

@@ -1,23 +1,26 @@
 -- A text that spells a scenario is read as it.
-use Rattle.std.proofs.Common.{◌≡◌, ℕ, zero, suc, ◌+◌, ◌≤◌, Bool, true, false, not, cond, List, [], ◌∷◌, ◌++◌, length, map, Option, Some, None, Ok, refl, ap, sym, ◌∙◌, subst}
+use Rattle.std.proofs.Common.{◌≡◌, ℕ, zero, suc, ◌+◌, ◌≤◌, ◌<◌, Bool, true, false, not, cond, List, [], ◌∷◌, ◌++◌, length, map, Option, Some, None, Result, Ok, Err, refl, ap, sym, ◌∙◌, subst}
 use Rattle.std.specs.Prelude.{slice_get, nat_eq, if◌then◌else◌}
 use Rattle.std.specs.List.{AllByRecursion, AllZip, cons_option}
-use Rattle.std.proofs.lemmas.Bool.{eq-eqb, eqb-true, le-ltb, false≢true}
+use Rattle.std.proofs.lemmas.Bool.{eq-eqb, eqb-true, le-ltb, lt-ltb, false≢true}
 use Rattle.ds_base.specs.declared.geometry.Geom.{Geom}
 use Rattle.ds_layout.specs.Places.{total_of}
 use Rattle.ds_tree.specs.declared.scenarios.Directive.{Directive}
 use Rattle.ds_tree.specs.declared.scenarios.HostPlan.{HostPlan}
 use Rattle.ds_tree.specs.declared.scenarios.Scenario.{Scenario}
 use Rattle.ds_tree.specs.Lines.{Words, lines_of, words_of, is_comment, kept}
-use Rattle.ds_tree.specs.Grammar.{names_of, Fits, IsStep, IsPlan, IsHostName, IsNameOf, AreArmed, Item, Volume, Host, Does, Step, SpellsItem, IsOfBody, IsScenario}
+use Rattle.ds_tree.specs.Grammar.{names_of, SpellsText, Fits, IsStep, IsPlan, IsHostName, IsNameOf, AreArmed, Item, Volume, Host, Does, Step, SpellsItem, IsOfBody, IsScenario}
 use Rattle.ds_tree.specs.PlainPass.{list_at, directives_of}
+use Rattle.ds_script.specs.declared.faults.ScriptFault.{ScriptFault}
+use Rattle.ds_script.specs.declared.faults.ScriptFault.TheVariants.{TooLarge}
+use Rattle.ds_script.specs.declared.faults.What.TheVariants as whats
 use Rattle.ds_script.specs.Faults.{most_sectors}
 use Rattle.ds_script.specs.Answers.{IsInOrder}
-use Rattle.ds_script.specs.Reading.{is_begun, with_item, line_read, read_from, volume_read, first_read, scenario_of, text_read}
+use Rattle.ds_script.specs.Reading.{Reads, is_begun, with_item, line_read, read_from, volume_line_at, volume_read, first_read, scenario_of, text_read}
 use Rattle.ds_script.proofs.LookupLaws.{AreNames}
 use Rattle.ds_script.proofs.ItemLaws.{item_again}
 use Rattle.ds_script.proofs.VolumeLaws.{SaysVolume, volume_line_again}
-use Rattle.ds_script.proofs.LineSteps.{first_read-passed, first_read-ok, read_from-none, read_from-passed, read_from-ok}
+use Rattle.ds_script.proofs.LineSteps.{first_read-passed, first_read-ok, first_read-err, read_from-none, read_from-passed, read_from-ok}
 use Rattle.ds_script.proofs.StateLaws.{are_more}
 use Rattle.ds_script.proofs.LineOrder.{IsTaken, Continues, done, passed, more}
 use Rattle.ds_script.proofs.Growth.{MayBe, Grows, directives_in, steps_in}
@@ -48,14 +51,33 @@ volume_again : (number : ℕ) (ws : Words) (volume : List ℕ × Geom) → SaysV
 unfolding volume_read
 volume_again number ws volume says few = rw (volume_line_again ws volume says, le-ltb most_sectors (total_of volume.1) few) refl
 
--- the volume line is read, and these items are left
+volume_large : (number : ℕ) (ws : Words) (volume : List ℕ × Geom) → SaysVolume ws volume → most_sectors < total_of volume.1
+    → volume_read number ws ≡ Err (TooLarge whats.Volume)
+unfolding volume_read
+volume_large number ws volume says many = rw (volume_line_again ws volume says, lt-ltb most_sectors (total_of volume.1) many) refl
+
+-- the words of a line, the number of the line behind it, and the lines from that one on
+abbrev Place : Type 0
+Place = Words × ℕ × List (List ℕ)
+
+-- that of the first line that isn't passed over
+abbrev first_kept : ℕ → List (List ℕ) → Option Place
+first_kept number [] = None
+first_kept number (line ∷ behind) =
+    if is_comment (words_of line) then first_kept (number + 1) behind else Some (words_of line, number + 1, behind)
+
+-- the first line is that of the volume, and these items are left; it is read where the volume isn't too large
 record LeavesItems (lines : List (List ℕ)) (number : ℕ) (names : Words) (volume : List ℕ × Geom) (items : List Item) : Type 0 where
+  words : Words
   next : ℕ
   behind : List (List ℕ)
-  reads : first_read number lines ≡ Ok (volume, next, behind)
+  is_first : first_kept number lines ≡ Some (words, next, behind)
+  says : SaysVolume words volume
+  reads : total_of volume.1 ≤ most_sectors → first_read number lines ≡ Ok (volume, next, behind)
+  refuses : most_sectors < total_of volume.1 → first_read number lines ≡ Err (TooLarge whats.Volume)
   spelled : AllZip (SpellsItem names) (kept behind) items
 
-module _ (names : Words) (volume : List ℕ × Geom) (items : List Item) (few : total_of volume.1 ≤ most_sectors)
+module _ (names : Words) (volume : List ℕ × Geom) (items : List Item)
     (says : (ws : Words) → SpellsItem names ws (Volume volume.0 volume.1) → SaysVolume ws volume) where
   abbrev Leaves : ℕ → List (List ℕ) → Type 0
   Leaves number lines = LeavesItems lines number names volume items
@@ -68,19 +90,31 @@ module _ (names : Words) (volume : List ℕ × Geom) (items : List Item) (few : 
       → AllZip (SpellsItem names) (cond (not b) (words_of line ∷ kept behind) (kept behind)) AllItems → Leaves number (line ∷ behind)
   first_line line behind number rest true is spelled =
       let later = rest spelled in
+      let passes : first_read number (line ∷ behind) ≡ first_read (number + 1) behind =
+      first_read-passed number (line ∷ behind) line behind refl is in
       record {
+        words = later.words;
         next = later.next;
         behind = later.behind;
-        reads = first_read-passed number (line ∷ behind) line behind refl is ∙ later.reads;
+        is_first = rw is later.is_first;
+        says = later.says;
+        reads = λ few. passes ∙ later.reads few;
+        refuses = λ many. passes ∙ later.refuses many;
         spelled = later.spelled;
       }
-  first_line line behind number rest false is spelled = record {
-    next = number + 1;
-    behind = behind;
-    reads = first_read-ok number (line ∷ behind) line behind volume refl is
-        (volume_again number (words_of line) volume (says (words_of line) spelled.0) few);
-    spelled = spelled.1;
-  }
+  first_line line behind number rest false is spelled =
+      let here = says (words_of line) spelled.0 in
+      record {
+        words = words_of line;
+        next = number + 1;
+        behind = behind;
+        is_first = rw is refl;
+        says = here;
+        reads = λ few. first_read-ok number (line ∷ behind) line behind volume refl is (volume_again number (words_of line) volume here few);
+        refuses = λ many. first_read-err number (line ∷ behind) line behind (TooLarge whats.Volume) refl is
+            (volume_large number (words_of line) volume here many);
+        spelled = spelled.1;
+      }
 
   first_again : (lines : List (List ℕ)) (number : ℕ) → AllZip (SpellsItem names) (kept lines) AllItems → Leaves number lines
   first_again [] number spelled = absurd spelled
@@ -175,27 +209,31 @@ text_from : (bytes : List ℕ) (volume : List ℕ × Geom) (number : ℕ) (behin
 unfolding text_read
 text_from bytes volume number behind e = rw e refl
 
-module _ (bytes : List ℕ) (s : Scenario) (h : IsInOrder bytes s) where
+text_refused : (bytes : List ℕ) (fault : ScriptFault) → first_read 1 (lines_of bytes) ≡ Err fault → text_read bytes ≡ Err fault
+unfolding text_read
+text_refused bytes fault e = rw e refl
+
+module _ (bytes : List ℕ) (s : Scenario) (h : SpellsText bytes s) where
   abbrev names : Words
   names = names_of s.hosts
 
   abbrev body : List Item
-  body = h.spells.body
+  body = h.body
 
   abbrev volume : List ℕ × Geom
   volume = (s.volume, s.geom)
 
   first : LeavesItems (lines_of bytes) 1 names volume (map Host names ++ body)
   first =
-      first_again names volume (map Host names ++ body) h.few_sectors
-      (λ ws spells. record { spells = spells; four = h.spells.is_scenario.four; geometry = h.spells.is_scenario.geometry })
-      (lines_of bytes) 1 h.spells.lines
+      first_again names volume (map Host names ++ body)
+      (λ ws spells. record { spells = spells; four = h.is_scenario.four; geometry = h.is_scenario.geometry })
+      (lines_of bytes) 1 h.lines
 
   lists : (host : ℕ) → list_at s.hosts host ≡ directives_in host body
   lists host = by_plan (slice_get s.hosts host) refl
     where
       by_plan : (o : Option HostPlan) → slice_get s.hosts host ≡ o → directives_of o ≡ directives_in host body
-      by_plan (Some plan) e = h.spells.lists host plan e
+      by_plan (Some plan) e = h.lists host plan e
       by_plan None e =
           let left = body_left names names body (kept first.behind) first.spelled in
           sym (none_past names host (name_none s.hosts host e) body left.0 left.1)
@@ -205,30 +243,67 @@ module _ (bytes : List ℕ) (s : Scenario) (h : IsInOrder bytes s) where
 
   stands : AllByRecursion (MayBe (length s.hosts)) body
   stands =
-      may_be (length s.hosts) body h.spells.of_body
+      may_be (length s.hosts) body h.of_body
       (λ host. subst (λ (ds : List Directive). AllFit ds) (lists host)
-      (each_list AllFit tt (length s.hosts) (λ plan p. p.fit) s.hosts h.spells.is_scenario.plans host))
-      (subst (λ (steps : List (ℕ × ℕ)). AllByRecursion (IsStep (length s.hosts)) steps) h.spells.steps h.spells.is_scenario.steps)
+      (each_list AllFit tt (length s.hosts) (λ plan p. p.fit) s.hosts h.is_scenario.plans host))
+      (subst (λ (steps : List (ℕ × ℕ)). AllByRecursion (IsStep (length s.hosts)) steps) h.steps h.is_scenario.steps)
 
   growth : Grows (scenario_of volume) first.behind s
   growth = record {
     news = names;
     body = body;
-    of_body = h.spells.of_body;
+    of_body = h.of_body;
     stands = stands;
     names = refl;
     lines = first.spelled;
     begun = λ b. absurd (false≢true b);
     lists = lists;
-    steps = h.spells.steps;
+    steps = h.steps;
     volume = refl;
     geom = refl;
   }
 
-  -- the scenario is read
-  pub again : text_read bytes ≡ Ok s
-  again =
-      (text_from bytes volume first.next first.behind first.reads
-      ∙ lines_again (scenario_of volume) s first.behind first.next
+  -- the scenario is read behind the line of its volume
+  behind_again : read_from (scenario_of volume) first.next first.behind ≡ Ok s
+  behind_again =
+      lines_again (scenario_of volume) s first.behind first.next
       (record { hosts = λ i w e. absurd cc; apart = λ i j w e f. absurd cc })
-      (continues s (scenario_end s h.spells.is_scenario) first.behind (scenario_of volume) growth))
+      (continues s (scenario_end s h.is_scenario) first.behind (scenario_of volume) growth)
+
+  read_within : total_of s.geom ≤ most_sectors → text_read bytes ≡ Ok s
+  read_within few = text_from bytes volume first.next first.behind (first.reads few) ∙ behind_again
+
+  -- a volume that is too large is told
+  pub large_told : most_sectors < total_of s.geom → text_read bytes ≡ Err (TooLarge whats.Volume)
+  large_told many = text_refused bytes (TooLarge whats.Volume) (first.refuses many)
+
+-- the scenario is read
+pub again : (bytes : List ℕ) (s : Scenario) → IsInOrder bytes s → text_read bytes ≡ Ok s
+again bytes s is = read_within bytes s is.spells is.few_sectors
+
+-- what is read of the same lines is the same
+one_read : (ws other : Words) (number next : ℕ) (behind rest : List (List ℕ)) (one last : List ℕ × Geom) (s t : Scenario)
+    → ◌≡◌ {A = Option Place} (Some (ws, number, behind)) (Some (other, next, rest)) → volume_line_at ws ≡ Ok one → volume_line_at other ≡ Ok last
+    → read_from (scenario_of one) number behind ≡ Ok s → read_from (scenario_of last) next rest ≡ Ok t → s ≡ t
+one_read ws other number next behind rest one last s t both says other_says reads later =
+    let places : ◌≡◌ {A = Place} (ws, number, behind) (other, next, rest) = cc in
+    let words : ws ≡ other = ap (λ (p : Place). p.0) places in
+    let numbers : number ≡ next = ap (λ (p : Place). p.1) places in
+    let lines : behind ≡ rest = ap (λ (p : Place). p.2) places in
+    let volumes : ◌≡◌ {A = Reads (List ℕ × Geom)} (Ok one) (Ok last) = sym says ∙ (ap volume_line_at words ∙ other_says) in
+    let same : one ≡ last = cc in
+    let as_one : read_from (scenario_of one) number behind ≡ read_from (scenario_of last) next rest =
+    ap (λ (v : List ℕ × Geom). read_from (scenario_of v) number behind) same
+    ∙ (ap (λ (n : ℕ). read_from (scenario_of last) n behind) numbers
+    ∙ ap (λ (ls : List (List ℕ)). read_from (scenario_of last) next ls) lines) in
+    let texts : ◌≡◌ {A = Result Scenario ScriptFault} (Ok s) (Ok t) = sym reads ∙ (as_one ∙ later) in
+    cc
+
+-- and no other is spelled
+pub same_scenario : (bytes : List ℕ) (s t : Scenario) → SpellsText bytes s → SpellsText bytes t → s ≡ t
+same_scenario bytes s t h k =
+    let a = first bytes s h in
+    let b = first bytes t k in
+    one_read a.words b.words a.next b.next a.behind b.behind (s.volume, s.geom) (t.volume, t.geom) s t (sym a.is_first ∙ b.is_first)
+    (volume_line_again a.words (s.volume, s.geom) a.says) (volume_line_again b.words (t.volume, t.geom) b.says)
+    (behind_again bytes s h) (behind_again bytes t k)

@@ -11,13 +11,15 @@ use Rattle.ds_tree.specs.declared.calls.HostCallOf.TheVariants as host_calls
 use Rattle.ds_tree.specs.declared.scenarios.Directive.{Directive}
 use Rattle.ds_tree.specs.declared.scenarios.Directive.TheVariants as directives
 use Rattle.ds_tree.specs.declared.variables.Spoken.{Spoken}
+use Rattle.ds_tree.specs.declared.call_kinds.CallKind.{CallKind}
+use Rattle.ds_tree.specs.CallKinds.{all_kinds, kind_word, kind_named}
 use Rattle.ds_tree.specs.Lines.{Words, is_word}
 use Rattle.ds_tree.specs.Grammar.{as_part, point_word, SpellsCall, SpellsTreeCall, Spells, Fits, FitsCall, FitsTreeCall, GivesKey, IsNameOf}
 use Rattle.ds_tree.specs.Variables.{IsVariable}
 use Rattle.ds_script.specs.declared.faults.LineFault.{LineFault}
 use Rattle.ds_script.specs.declared.faults.LineFault.TheVariants as faults
 use Rattle.ds_script.specs.Faults.{Shape, first_fault, Row, row, directive_rows, directive_fault}
-use Rattle.ds_script.specs.Reading.{◌>>=◌, Reads, word_at, end_at, register_at, unregister_at, beat_at, scan_at, die_at, return_at, directive_named, tree_call_named, change_named, file_call_named, arming_named, other_named, directive_at}
+use Rattle.ds_script.specs.Reading.{◌>>=◌, Reads, word_at, end_at, register_at, unregister_at, beat_at, scan_at, die_at, return_at, call_at, directive_named, arming_named, other_named, directive_at}
 use Rattle.ds_script.proofs.Readers.{fault_in, taken}
 use Rattle.ds_script.proofs.WordLaws.{bytes_eq-means}
 use Rattle.ds_script.proofs.LookupLaws.{AreNames}
@@ -41,6 +43,23 @@ row_of e = row e.word e.shape
 abbrev by_entry : {names : Words} → List (Entry names) → List ℕ → Words → Reads Directive
 by_entry [] w ws = Err faults.Word
 by_entry (e ∷ es) w ws = if bytes_eq w e.word then e.read ws else by_entry es w ws
+
+-- the reading by the first kind of call with this word, or else another
+abbrev by_kind : List ℕ → Words → Reads Directive → List CallKind → Reads Directive
+by_kind w ws other [] = other
+by_kind w ws other (kind ∷ kinds) = if bytes_eq w (kind_word kind) then call_at kind ws else by_kind w ws other kinds
+
+module _ (w : List ℕ) (ws : Words) (other : Reads Directive) where
+  kind_same : (kind : CallKind) (found : Option CallKind) (more : Reads Directive)
+      → option_map_or (λ kind. call_at kind ws) found other ≡ more → (b : Bool)
+      → option_map_or (λ kind. call_at kind ws) (cond b (Some kind) found) other ≡ cond b (call_at kind ws) more
+  kind_same kind found more same true = refl
+  kind_same kind found more same false = same
+
+  kinds_same : (kinds : List CallKind)
+      → option_map_or (λ kind. call_at kind ws) (find (λ kind. bytes_eq w (kind_word kind)) kinds) other ≡ by_kind w ws other kinds
+  kinds_same [] = refl
+  kinds_same (kind ∷ kinds) = kind_same kind _ _ (kinds_same kinds) (bytes_eq w (kind_word kind))
 
 module _ (names : Words) where
   entry_means : (e : Entry names) (w : List ℕ) (ws : Words) (rest : Reads Directive) → IfOk rest (Says names (w ∷ ws))
@@ -104,8 +123,8 @@ module _ (names : Words) where
         ∷ entry _ _ (returns names) ∷ []
 
     named_same : (w : List ℕ) (ws : Words) → directive_named names w ws ≡ by_entry table w ws
-    unfolding directive_named tree_call_named change_named file_call_named arming_named other_named
-    named_same w ws = refl
+    unfolding directive_named kind_named call_at arming_named other_named
+    named_same w ws = kinds_same w ws (arming_named names w ws) all_kinds
 
     word_means : (w : List ℕ) (ws : Words) (b : Bool)
         → IfOk (taken w ws b >>= (λ w. directive_named names w.0 w.1)) (Says names (w ∷ ws))
@@ -156,7 +175,7 @@ module _ (names : Words) where
   tree_call_again : (call : CallOf Spoken) (bind : Option (List ℕ)) (front ws : Words) → ws ≡ front ++ as_part bind
       → SpellsTreeCall front call → FitsTreeCall call → IfSome bind (λ name. IsVariable name × GivesKey (host_calls.Tree call))
       → directive_at names ws ≡ Ok (directives.Call (host_calls.Tree call) bind)
-  unfolding directive_at word_at directive_named tree_call_named change_named file_call_named arming_named other_named
+  unfolding directive_at word_at directive_named kind_named call_at arming_named other_named
   tree_call_again (calls.Mkdir dir name) bind front ws is spells fits bound =
       from_front front _ (as_part bind) ws _ is spells
       (mkdirs_again names dir name bind fits.0 fits.1 (bound_variable (host_calls.Tree (calls.Mkdir dir name)) bind bound))
@@ -187,7 +206,7 @@ module _ (names : Words) where
   call_again : (call : HostCallOf Spoken) (bind : Option (List ℕ)) (front ws : Words) → ws ≡ front ++ as_part bind
       → SpellsCall front call → FitsCall call → IfSome bind (λ name. IsVariable name × GivesKey call)
       → directive_at names ws ≡ Ok (directives.Call call bind)
-  unfolding directive_at word_at directive_named tree_call_named change_named file_call_named arming_named other_named register_at unregister_at beat_at scan_at end_at
+  unfolding directive_at word_at directive_named kind_named call_at arming_named other_named register_at unregister_at beat_at scan_at end_at
   call_again (host_calls.Tree call) bind front ws is spells fits bound = tree_call_again call bind front ws is spells fits bound
   call_again host_calls.Register bind front ws is spells fits bound = from_call front _ ws _ bind is spells bound refl
   call_again host_calls.Unregister bind front ws is spells fits bound = from_call front _ ws _ bind is spells bound refl
@@ -204,7 +223,7 @@ module _ (names : Words) where
   named host word is = sym (get_or_from_slice_get names host word [] is)
 
   pub directive_again : AreNames names → (ws : Words) (d : Directive) → Spells names ws d → Fits (length names) d → directive_at names ws ≡ Ok d
-  unfolding directive_at word_at directive_named tree_call_named change_named file_call_named arming_named other_named die_at return_at end_at
+  unfolding directive_at word_at directive_named kind_named call_at arming_named other_named die_at return_at end_at
   directive_again are ws (directives.Call call bind) spells fits = call_again call bind spells.0 ws spells.2 spells.1 fits.0 fits.1
   directive_again are ws (directives.Tick n) spells fits = ap (directive_at names) spells ∙ ticks_again names n fits
   directive_again are ws (directives.Wait host directive) spells fits =

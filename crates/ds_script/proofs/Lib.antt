@@ -29,6 +29,7 @@ mod ScenarioTexts
 mod Growth
 mod Within
 mod ScenarioLaws
+mod CallNames
 mod ArmedCalls
 mod Continuing
 mod AgainLaws

@@ -25,8 +25,8 @@ use Rattle.ds_tree.specs.declared.variables.Spoken.{Spoken}
 use Rattle.ds_tree.specs.declared.variables.Spoken.TheVariants.{Root, Var}
 use Rattle.ds_tree.specs.Lines.{Words, is_visible, is_word}
 use Rattle.ds_tree.specs.Variables.{IsVariable}
-use Rattle.ds_tree.specs.Grammar.{point_word, landing_word, key_word, as_part, after_part, geometry_part, SpellsTreeCall, SpellsCall, IsNameOf, Spells, FitsKey, FitsWord, FitsTreeCall, FitsCall, GivesKey, IsAwaited, Fits}
-use Rattle.ds_script.specs.Printed.{tree_call_words, call_words, name_at, directive_words}
+use Rattle.ds_tree.specs.Grammar.{point_word, landing_word, key_word, as_part, after_part, geometry_part, tree_call_words, call_words, SpellsTreeCall, SpellsCall, IsNameOf, Spells, FitsKey, FitsWord, FitsTreeCall, FitsCall, GivesKey, IsAwaited, Fits}
+use Rattle.ds_script.specs.Printed.{name_at, directive_words}
 use Rattle.ds_script.proofs.WordLaws.{is_word-from, is_word-decimal, is_word-label, label-variable, label_means}
 use Rattle.ds_script.proofs.LookupLaws.{AreNames}
 

@@ -104,6 +104,10 @@ module _ (bytes : List ℕ) (rightly : length bytes ≤ most_bytes → ReadsRigh
         | inr so ↦ inr (told_same (within_bytes bytes (text_read bytes)) r answer (answer_told r so) (answer_told answer is))
       ]
 
+  -- two answers to a text are one
+  pub same_answer : (a b : Result Scenario ScriptFault) → IsAnswer bytes a → IsAnswer bytes b → a ≡ b
+  same_answer a b is other = told_same (within_bytes bytes (text_read bytes)) a b (answer_told a is) (answer_told b other)
+
 module _ (bytes : List ℕ)
     (rightly : length bytes ≤ most_bytes → ReadsRightly in_volume bytes (volume_text_read bytes) (λ v. IsVolumeText bytes v.0 v.1)) where
   volume_fault : (fault : ScriptFault) → IsFault in_volume bytes fault → IsVolumeAnswer bytes (Err fault)

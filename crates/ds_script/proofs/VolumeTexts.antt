@@ -2,20 +2,22 @@
 use Rattle.std.proofs.Common.{◌≡◌, ℕ, ◌+◌, ◌≤◌, ◌<◌, ◌⊎◌, inl, inr, Bool, true, false, List, [], ◌∷◌, length, get_or, take, drop, Result, Ok, Err, Some, None, refl, ap, sym, ◌∙◌, subst, arith}
 use Rattle.std.specs.Prelude.{nat_lt, if◌then◌else◌}
 use Rattle.std.specs.List.{AllZip}
-use Rattle.std.proofs.lemmas.Bool.{le-ltb, cases_order}
+use Rattle.std.proofs.lemmas.Bool.{le-ltb, lt-ltb, cases_lt, cases_order}
 use Rattle.ds_base.specs.declared.geometry.Geom.{Geom}
 use Rattle.ds_layout.specs.Places.{total_of}
 use Rattle.ds_tree.specs.Lines.{Words, lines_of, words_of, is_comment, kept}
-use Rattle.ds_tree.specs.Grammar.{most_bytes, Item, Volume, SpellsItem}
+use Rattle.ds_tree.specs.Grammar.{most_bytes, Item, Volume, SpellsItem, SpellsVolume}
+use Rattle.ds_script.specs.declared.faults.LineFault.{LineFault}
 use Rattle.ds_script.specs.declared.faults.LineFault.TheVariants as faults
 use Rattle.ds_script.specs.declared.faults.ScriptFault.{ScriptFault}
 use Rattle.ds_script.specs.declared.faults.ScriptFault.TheVariants.{BadLine, TooLarge, Stuck, NoMemory}
+use Rattle.ds_script.specs.declared.faults.What.{What}
 use Rattle.ds_script.specs.declared.faults.What.TheVariants as whats
-use Rattle.ds_script.specs.Answers.{IsVolumeText, IsVolumeAnswer}
+use Rattle.ds_script.specs.Answers.{IsVolumeText, IsVolumeAnswer, HasBadLine, IsTooLarge}
 use Rattle.ds_script.specs.Faults.{most_sectors, Trouble, Bad, Large, in_volume, trouble_at, IsFirst, PassesLimit}
-use Rattle.ds_script.specs.Reading.{◌>>=◌, volume_read, first_read, none_read, only_volume_read, volume_text_read, within_bytes}
+use Rattle.ds_script.specs.Reading.{◌>>=◌, volume_line_at, volume_read, first_read, none_read, only_volume_read, volume_text_read, within_bytes}
 use Rattle.ds_script.proofs.LimitLaws.{trouble_not_bytes}
-use Rattle.ds_script.proofs.FirstTroubles.{IsGood}
+use Rattle.ds_script.proofs.FirstTroubles.{IsGood, good_not_bad, good_not_large, bad_not_large, same_large}
 use Rattle.ds_script.proofs.LineOrder.{refusal, passed_stands, IsAt, line_at, trouble_here}
 use Rattle.ds_script.proofs.LineSteps.{first_read-none, first_read-passed, first_read-ok, first_read-err, none_read-none, none_read-passed, none_read-kept}
 use Rattle.ds_script.proofs.NextKept.{NoneKept, NextKept, is_inside, next_kept, kept_to, kept_around}
@@ -74,6 +76,12 @@ volume_again : (number : ℕ) (ws : Words) (volume : List ℕ × Geom) → SaysV
 unfolding volume_read
 volume_again number ws volume says few =
     let fits : nat_lt most_sectors (total_of volume.1) ≡ false = le-ltb _ _ few in rw (volume_line_again ws volume says, fits) refl
+
+volume_large : (number : ℕ) (ws : Words) (volume : List ℕ × Geom) → SaysVolume ws volume → most_sectors < total_of volume.1
+    → volume_read number ws ≡ Err (TooLarge whats.Volume)
+unfolding volume_read
+volume_large number ws volume says many =
+    let passes : nat_lt most_sectors (total_of volume.1) ≡ true = lt-ltb _ _ many in rw (volume_line_again ws volume says, passes) refl
 
 module _ (lines : List (List ℕ)) where
   -- The line that is kept first.
@@ -214,6 +222,25 @@ module _ (lines : List (List ℕ)) where
     again : lines_read (first_read 1 lines) ≡ Ok volume
     again = by_first_again next_first
 
+  -- A volume line alone of a volume that is too large is told.
+
+  module _ (words : Words) (volume : List ℕ × Geom) (alone : kept lines ≡ words ∷ []) (says : SaysVolume words volume)
+      (many : most_sectors < total_of volume.1) where
+    by_first_told : NoneKept First first_read lines lines 0 ⊎ NextFirst lines → lines_read (first_read 1 lines) ≡ Err (TooLarge whats.Volume)
+    by_first_told (inl none) = let both : words ∷ [] ≡ [] = sym alone ∙ none.front in absurd cc
+    by_first_told (inr first) =
+        let around : words_of first.line ∷ kept first.behind ≡ words ∷ [] =
+        sym (kept_around lines first.k first.line first.behind [] (place first) first.front first.keeps) ∙ alone in
+        let same : words_of first.line ≡ words = cc in
+        let says_first : SaysVolume (words_of first.line) volume = subst (λ ws. SaysVolume ws volume) (sym same) says in
+        let read = volume_large (first.k + 1) (words_of first.line) volume says_first many in
+        let so : first_read 1 lines ≡ Err (TooLarge whats.Volume) =
+        first.walked ∙ first_read-err (first.k + 1) (first.line ∷ first.behind) first.line first.behind (TooLarge whats.Volume) refl first.keeps read in
+        ap lines_read so
+
+    large_told : lines_read (first_read 1 lines) ≡ Err (TooLarge whats.Volume)
+    large_told = by_first_told next_first
+
 -- What a text of a volume owes.
 
 fault_told : (lines : List (List ℕ)) (f : ScriptFault) → TextGives lines (Err f) → HasFault in_volume lines f
@@ -291,3 +318,57 @@ module _ (bytes : List ℕ) where
   pub only_answer : (result : Read) → result ≡ within_bytes bytes (volume_text_read bytes) → (answer : Read) → IsVolumeAnswer bytes answer
       → result ≡ answer
   only_answer result told answer is = only_volume_answered bytes reads_rightly result told answer is
+
+  -- two answers are one
+  pub one_answer : (a b : Read) → IsVolumeAnswer bytes a → IsVolumeAnswer bytes b → a ≡ b
+  one_answer a b is other =
+      let read : Read = within_bytes bytes (volume_text_read bytes) in sym (only_answer read refl a is) ∙ only_answer read refl b other
+
+  module _ (volume : List ℕ × Geom) (spells : SpellsVolume bytes volume.0 volume.1) where
+    one_line : (words : Words) × (kept (lines_of bytes) ≡ words ∷ []) × SpellsItem [] words (Volume volume.0 volume.1)
+    one_line = one_spelled (SpellsItem []) (kept (lines_of bytes)) (Volume volume.0 volume.1) spells.lines
+
+    line_says : SaysVolume one_line.0 volume
+    line_says = record { spells = one_line.2; four = spells.four; geometry = spells.geometry }
+
+    -- the text of a volume that is too large passes that limit
+    large_passed : most_sectors < total_of volume.1 → PassesLimit in_volume (lines_of bytes) whats.Volume
+    unfolding volume_text_read
+    large_passed many =
+        (reads_rightly spells.few_bytes).large whats.Volume (large_told (lines_of bytes) one_line.0 volume one_line.1 line_says many)
+
+    lines_good : total_of volume.1 ≤ most_sectors → IsGood in_volume (lines_of bytes)
+    lines_good few = (reads_rightly spells.few_bytes).good volume (text_again volume (record { spells = spells; few_sectors = few }))
+
+    -- a line of a text that is spelled isn't bad
+    pub spelled_not_bad : (number : ℕ) (why : LineFault) → HasBadLine in_volume bytes number why → ⊥
+    spelled_not_bad number why (few, bad) =
+        elim (cases_lt most_sectors (total_of volume.1)) [
+          | inl many ↦ bad_not_large in_volume (lines_of bytes) number why whats.Volume bad (large_passed many)
+          | inr fits ↦ good_not_bad in_volume (lines_of bytes) number why (lines_good fits) bad
+        ]
+
+    limit_told : (what : What) → PassesLimit in_volume (lines_of bytes) what → (what ≡ whats.Volume) × (most_sectors < total_of volume.1)
+    limit_told what passes =
+        elim (cases_lt most_sectors (total_of volume.1)) [
+          | inl many ↦ (same_large in_volume (lines_of bytes) what whats.Volume passes (large_passed many), many)
+          | inr fits ↦ absurd (good_not_large in_volume (lines_of bytes) what (lines_good fits) passes)
+        ]
+
+    -- and of all limits it can only pass that of the volume
+    pub spelled_within : (what : What) → IsTooLarge in_volume bytes what → (what ≡ whats.Volume) × (most_sectors < total_of volume.1)
+    spelled_within whats.Bytes many = absurd (omega (arith, many, spells.few_bytes))
+    spelled_within whats.Hosts (few, passes) = limit_told whats.Hosts passes
+    spelled_within whats.Directives (few, passes) = limit_told whats.Directives passes
+    spelled_within whats.Steps (few, passes) = limit_told whats.Steps passes
+    spelled_within whats.Volume (few, passes) = limit_told whats.Volume passes
+
+-- a text spells at most one volume
+pub same_volume : (bytes : List ℕ) (a b : List ℕ × Geom) → SpellsVolume bytes a.0 a.1 → SpellsVolume bytes b.0 b.1 → a ≡ b
+same_volume bytes a b h k =
+    let one : volume_line_at (one_line bytes a h).0 ≡ Ok a = volume_line_again (one_line bytes a h).0 a (line_says bytes a h) in
+    let other : volume_line_at (one_line bytes b k).0 ≡ Ok b = volume_line_again (one_line bytes b k).0 b (line_says bytes b k) in
+    let lines : (one_line bytes a h).0 ∷ [] ≡ (one_line bytes b k).0 ∷ [] = sym (one_line bytes a h).1 ∙ (one_line bytes b k).1 in
+    let words : (one_line bytes a h).0 ≡ (one_line bytes b k).0 = cc in
+    let both : Ok a ≡ Ok b = sym one ∙ (ap volume_line_at words ∙ other) in
+    cc

@@ -11,6 +11,9 @@ use Rattle.ds_base.specs.declared.geometry.GeomField.{GeomField}
 use Rattle.ds_base.specs.declared.geometry.GeomField.TheVariants as fields
 use Rattle.ds_base.specs.Geometry.{most_of}
 use Rattle.ds_layout.specs.Places.{total_of}
+use Rattle.ds_tree.specs.declared.call_kinds.CallKind.{CallKind}
+use Rattle.ds_tree.specs.declared.call_kinds.CallKind.TheVariants as kinds
+use Rattle.ds_tree.specs.CallKinds.{all_kinds, kind_word}
 use Rattle.ds_tree.specs.Lines.{Words, words_of, is_run, is_word, is_comment, kept, is_number, number_of, is_number_in}
 use Rattle.ds_tree.specs.Grammar.{most_hosts, most_directives, most_steps, most_turns, most_ticks, is_label, is_reserved}
 use Rattle.ds_script.specs.declared.faults.LineFault.{LineFault}
@@ -116,28 +119,30 @@ count = Number 0 4294967295
 abbrev pub awaited : Shape
 awaited = Then KnownHost (Then (Number 1 most_directives) End)
 
+-- the words behind that of a call
+abbrev pub call_shape : CallKind → Shape
+call_shape kinds.Register = End
+call_shape kinds.Unregister = End
+call_shape kinds.Beat = End
+call_shape kinds.Scan = End
+call_shape kinds.Mkdir = binding
+call_shape kinds.Create = binding
+call_shape kinds.Lookup = binding
+call_shape kinds.List = Then Key (Maybe (Then (Keyword (codes "after")) (Then AnyWord End)))
+call_shape kinds.Stat = Then Key End
+call_shape kinds.Map = Then Key (Then count End)
+call_shape kinds.Resize = Then Key (Then count End)
+call_shape kinds.Remove = named End
+call_shape kinds.Rmdir = named End
+call_shape kinds.Rename = named (named End)
+call_shape kinds.Open = Then Key End
+call_shape kinds.Close = Then Key End
+call_shape kinds.Put = Then Key (Then count (Then (Number 0 255) End))
+call_shape kinds.Get = Then Key (Then count End)
+
 -- the directives that are calls
 abbrev pub call_rows : List Row
-call_rows =
-    row (codes "register") End
-    ∷ row (codes "unregister") End
-    ∷ row (codes "beat") End
-    ∷ row (codes "scan") End
-    ∷ row (codes "mkdir") binding
-    ∷ row (codes "create") binding
-    ∷ row (codes "lookup") binding
-    ∷ row (codes "list") (Then Key (Maybe (Then (Keyword (codes "after")) (Then AnyWord End))))
-    ∷ row (codes "stat") (Then Key End)
-    ∷ row (codes "map") (Then Key (Then count End))
-    ∷ row (codes "resize") (Then Key (Then count End))
-    ∷ row (codes "remove") (named End)
-    ∷ row (codes "rmdir") (named End)
-    ∷ row (codes "rename") (named (named End))
-    ∷ row (codes "open") (Then Key End)
-    ∷ row (codes "close") (Then Key End)
-    ∷ row (codes "put") (Then Key (Then count (Then (Number 0 255) End)))
-    ∷ row (codes "get") (Then Key (Then count End))
-    ∷ []
+call_rows = map (λ kind. row (kind_word kind) (call_shape kind)) all_kinds
 
 -- those that are about the next call
 abbrev pub arming_rows : List Row

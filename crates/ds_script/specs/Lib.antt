@@ -4,6 +4,7 @@ pub mod Entries
 pub mod Faults
 pub mod FaultTexts
 pub mod Fronts
+pub mod Laws
 pub mod Passing
 pub mod Printed
 pub mod Reading

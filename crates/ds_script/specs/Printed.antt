@@ -2,44 +2,14 @@
 use Rattle.std.specs.Prelude.{◌≡◌, ℕ, List, [], ◌∷◌, ◌++◌, map, slice_index_or, codes, decimal, Some}
 use Rattle.std.specs.List.{flat_map, join_by, enumerate_from}
 use Rattle.uuid.specs.Text.{hyphenated_text, lower, parsed}
-use Rattle.ds_tree.specs.declared.calls.CallOf.{CallOf}
-use Rattle.ds_tree.specs.declared.calls.CallOf.TheVariants as calls
-use Rattle.ds_tree.specs.declared.calls.HostCallOf.{HostCallOf}
-use Rattle.ds_tree.specs.declared.calls.HostCallOf.TheVariants as host_calls
 use Rattle.ds_tree.specs.declared.scenarios.Directive.{Directive}
 use Rattle.ds_tree.specs.declared.scenarios.Directive.TheVariants as directives
 use Rattle.ds_tree.specs.declared.scenarios.HostPlan.{HostPlan}
 use Rattle.ds_tree.specs.declared.scenarios.Scenario.{Scenario}
-use Rattle.ds_tree.specs.declared.variables.Spoken.{Spoken}
 use Rattle.ds_tree.specs.Lines.{Words}
-use Rattle.ds_tree.specs.Grammar.{point_word, landing_word, key_word, as_part, after_part, geometry_part, names_of, Item, Volume, Host, Does, Step}
+use Rattle.ds_tree.specs.Grammar.{point_word, landing_word, as_part, call_words, geometry_part, names_of, Item, Volume, Host, Does, Step}
 
 -- The words of a line.
-
--- the words of a call on the file tree; there are none for the reading of a block's number, which no text asks for
-abbrev pub tree_call_words : CallOf Spoken → Words
-tree_call_words (calls.Mkdir dir name) = codes "mkdir" ∷ key_word dir ∷ name ∷ []
-tree_call_words (calls.Create dir name) = codes "create" ∷ key_word dir ∷ name ∷ []
-tree_call_words (calls.Lookup dir name) = codes "lookup" ∷ key_word dir ∷ name ∷ []
-tree_call_words (calls.List dir after) = codes "list" ∷ key_word dir ∷ after_part after
-tree_call_words (calls.Stat key) = codes "stat" ∷ key_word key ∷ []
-tree_call_words (calls.Map file page) = codes "map" ∷ key_word file ∷ decimal page ∷ []
-tree_call_words (calls.Resize file blocks) = codes "resize" ∷ key_word file ∷ decimal blocks ∷ []
-tree_call_words (calls.Remove dir name) = codes "remove" ∷ key_word dir ∷ name ∷ []
-tree_call_words (calls.Rmdir dir name) = codes "rmdir" ∷ key_word dir ∷ name ∷ []
-tree_call_words (calls.Rename dir name to fresh) = codes "rename" ∷ key_word dir ∷ name ∷ key_word to ∷ fresh ∷ []
-tree_call_words (calls.OpenFile file) = codes "open" ∷ key_word file ∷ []
-tree_call_words (calls.At file index) = []
-
-abbrev pub call_words : HostCallOf Spoken → Words
-call_words (host_calls.Tree call) = tree_call_words call
-call_words host_calls.Register = codes "register" ∷ []
-call_words host_calls.Unregister = codes "unregister" ∷ []
-call_words host_calls.Beat = codes "beat" ∷ []
-call_words host_calls.Scan = codes "scan" ∷ []
-call_words (host_calls.Close file) = codes "close" ∷ key_word file ∷ []
-call_words (host_calls.Put file sector fill) = codes "put" ∷ key_word file ∷ decimal sector ∷ decimal fill ∷ []
-call_words (host_calls.Get file sector) = codes "get" ∷ key_word file ∷ decimal sector ∷ []
 
 -- the name of the host with this number, where the hosts have these names; none where there is no such host
 abbrev pub name_at : Words → ℕ → List ℕ

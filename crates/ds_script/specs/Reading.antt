@@ -11,6 +11,8 @@ use Rattle.ds_base.specs.declared.geometry.GeomField.{GeomField}
 use Rattle.ds_base.specs.declared.geometry.GeomField.TheVariants as fields
 use Rattle.ds_base.specs.Geometry.{most_of}
 use Rattle.ds_layout.specs.Places.{total_of}
+use Rattle.ds_tree.specs.declared.call_kinds.CallKind.{CallKind}
+use Rattle.ds_tree.specs.declared.call_kinds.CallKind.TheVariants as kinds
 use Rattle.ds_tree.specs.declared.calls.CallOf.{CallOf}
 use Rattle.ds_tree.specs.declared.calls.CallOf.TheVariants as calls
 use Rattle.ds_tree.specs.declared.calls.HostCallOf.{HostCallOf}
@@ -23,6 +25,7 @@ use Rattle.ds_tree.specs.declared.scenarios.Point.TheVariants as points
 use Rattle.ds_tree.specs.declared.scenarios.Scenario.{Scenario}
 use Rattle.ds_tree.specs.declared.variables.Spoken.{Spoken}
 use Rattle.ds_tree.specs.declared.variables.Spoken.TheVariants.{Root, Var}
+use Rattle.ds_tree.specs.CallKinds.{kind_named}
 use Rattle.ds_tree.specs.Lines.{Words, lines_of, words_of, is_word, is_comment, is_number, number_of, is_number_in}
 use Rattle.ds_tree.specs.Grammar.{most_bytes, most_hosts, most_directives, most_steps, most_turns, most_ticks, point_word, is_arming, is_label, is_reserved, names_of, Item, Volume, Host, Does, Step}
 use Rattle.ds_script.specs.declared.faults.LineFault.{LineFault}
@@ -320,39 +323,29 @@ arming_named names w ws =
     else if bytes_eq w (codes "fail") then fail_at ws
     else other_named names w ws
 
-unfoldable pub file_call_named : Words → List ℕ → Words → Reads Directive
-file_call_named names w ws =
-    if bytes_eq w (codes "open") then open_at ws
-    else if bytes_eq w (codes "close") then close_at ws
-    else if bytes_eq w (codes "put") then put_at ws
-    else if bytes_eq w (codes "get") then get_at ws
-    else arming_named names w ws
-
-unfoldable pub change_named : Words → List ℕ → Words → Reads Directive
-change_named names w ws =
-    if bytes_eq w (codes "resize") then resize_at ws
-    else if bytes_eq w (codes "remove") then remove_at ws
-    else if bytes_eq w (codes "rmdir") then rmdir_at ws
-    else if bytes_eq w (codes "rename") then rename_at ws
-    else file_call_named names w ws
-
-unfoldable pub tree_call_named : Words → List ℕ → Words → Reads Directive
-tree_call_named names w ws =
-    if bytes_eq w (codes "mkdir") then mkdir_at ws
-    else if bytes_eq w (codes "create") then create_at ws
-    else if bytes_eq w (codes "lookup") then lookup_at ws
-    else if bytes_eq w (codes "list") then list_at ws
-    else if bytes_eq w (codes "stat") then stat_at ws
-    else if bytes_eq w (codes "map") then map_at ws
-    else change_named names w ws
+-- a call by its kind
+unfoldable pub call_at : CallKind → Words → Reads Directive
+call_at kinds.Register ws = register_at ws
+call_at kinds.Unregister ws = unregister_at ws
+call_at kinds.Beat ws = beat_at ws
+call_at kinds.Scan ws = scan_at ws
+call_at kinds.Mkdir ws = mkdir_at ws
+call_at kinds.Create ws = create_at ws
+call_at kinds.Lookup ws = lookup_at ws
+call_at kinds.List ws = list_at ws
+call_at kinds.Stat ws = stat_at ws
+call_at kinds.Map ws = map_at ws
+call_at kinds.Resize ws = resize_at ws
+call_at kinds.Remove ws = remove_at ws
+call_at kinds.Rmdir ws = rmdir_at ws
+call_at kinds.Rename ws = rename_at ws
+call_at kinds.Open ws = open_at ws
+call_at kinds.Close ws = close_at ws
+call_at kinds.Put ws = put_at ws
+call_at kinds.Get ws = get_at ws
 
 unfoldable pub directive_named : Words → List ℕ → Words → Reads Directive
-directive_named names w ws =
-    if bytes_eq w (codes "register") then register_at ws
-    else if bytes_eq w (codes "unregister") then unregister_at ws
-    else if bytes_eq w (codes "beat") then beat_at ws
-    else if bytes_eq w (codes "scan") then scan_at ws
-    else tree_call_named names w ws
+directive_named names w ws = option_map_or (λ kind. call_at kind ws) (kind_named w) (arming_named names w ws)
 
 unfoldable pub directive_at : Words → Words → Reads Directive
 directive_at names ws = do

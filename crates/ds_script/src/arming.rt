@@ -12,7 +12,7 @@ ghost use Rattle.ds_script.specs.Runs.{runs_of};
 use crate::fields::is_run;
 use crate::items::{Entry, is_comment};
 use crate::lines::{next_line, next_word};
-use ds_tree::Directive;
+use ds_tree::{CallKind, Directive};
 
 /// Whether a line's entry is a directive that the lines behind it leave without a call.
 pub fn is_unarmed(entry: &Entry, line: &[u8], behind: &[u8]) -> bool
@@ -86,25 +86,9 @@ fn next_run(line: &[u8]) -> Option<(&[u8], &[u8])>
 }
 
 /// Whether a directive with this first word is a call.
+#[tactic(auto, using(crate::proofs::CallNames::named_is_call))]
 fn is_call(word: &[u8]) -> bool
     ensures { result ≡ is_first_of call_rows word.now }
 {
-    word == b"register".as_slice()
-        || word == b"unregister".as_slice()
-        || word == b"beat".as_slice()
-        || word == b"scan".as_slice()
-        || word == b"mkdir".as_slice()
-        || word == b"create".as_slice()
-        || word == b"lookup".as_slice()
-        || word == b"list".as_slice()
-        || word == b"stat".as_slice()
-        || word == b"map".as_slice()
-        || word == b"resize".as_slice()
-        || word == b"remove".as_slice()
-        || word == b"rmdir".as_slice()
-        || word == b"rename".as_slice()
-        || word == b"open".as_slice()
-        || word == b"close".as_slice()
-        || word == b"put".as_slice()
-        || word == b"get".as_slice()
+    CallKind::named(word).is_some()
 }

@@ -5,7 +5,7 @@ ghost use Rattle.std.specs.Prelude.{◌≡◌, ◌≤◌, Some, None, length};
 ghost use Rattle.ds_tree.specs.Grammar.{most_hosts, names_of};
 ghost use Rattle.ds_tree.specs.Lines.{words_of};
 ghost use Rattle.ds_tree.specs.declared.scenarios.Directive.{Directive};
-ghost use Rattle.ds_script.specs.Reading.{arming_named, awaited_at, binding_on_tree, change_named, close_at, crash_at, create_at, directive_at, directive_named, fail_at, file_call_named, get_at, hold_at, list_at, lookup_at, map_at, mkdir_at, on_tree, open_at, other_named, put_at, remove_at, rename_at, resize_at, rmdir_at, stat_at, tick_at, tree_call_named, unbound, wait_at};
+ghost use Rattle.ds_script.specs.Reading.{arming_named, awaited_at, binding_on_tree, call_at, close_at, crash_at, create_at, directive_at, directive_named, fail_at, get_at, hold_at, list_at, lookup_at, map_at, mkdir_at, on_tree, open_at, other_named, put_at, remove_at, rename_at, resize_at, rmdir_at, stat_at, tick_at, unbound, wait_at};
 ghost use Rattle.ds_script.specs.Results.{Gives};
 
 use crate::faults::LineFault;
@@ -15,7 +15,7 @@ use crate::fields::{
 };
 use crate::limits::{MOST_DIRECTIVES, MOST_TICKS};
 use ds_base::HostNo;
-use ds_tree::{CallOf, Directive, HostCallOf, HostPlan, Spoken, Var};
+use ds_tree::{CallKind, CallOf, Directive, HostCallOf, HostPlan, Spoken, Var};
 
 /// A directive.
 #[tactic(auto, unfolding(crate::specs::Reading::directive_at))]
@@ -27,90 +27,42 @@ pub fn take_directive(hosts: &[HostPlan], line: &[u8]) -> Result<Directive, Line
     directive_named(hosts, word, rest)
 }
 
-#[tactic(auto, unfolding(crate::specs::Reading::directive_named, crate::specs::Reading::register_at, crate::specs::Reading::unregister_at, crate::specs::Reading::beat_at, crate::specs::Reading::scan_at))]
+#[tactic(auto, unfolding(crate::specs::Reading::directive_named))]
 fn directive_named(hosts: &[HostPlan], word: &[u8], rest: &[u8]) -> Result<Directive, LineFault>
     requires { length hosts.now ≤ most_hosts }
     ensures { Gives (λ x. x) result (directive_named (names_of hosts.now) word.now (words_of rest.now)) }
 {
-    if word == b"register".as_slice() {
-        return ended(unbound(HostCallOf::Register), rest);
+    match CallKind::named(word) {
+        Some(kind) => take_call(kind, rest),
+        None => arming_named(hosts, word, rest),
     }
-    if word == b"unregister".as_slice() {
-        return ended(unbound(HostCallOf::Unregister), rest);
-    }
-    if word == b"beat".as_slice() {
-        return ended(unbound(HostCallOf::Beat), rest);
-    }
-    if word == b"scan".as_slice() {
-        return ended(unbound(HostCallOf::Scan), rest);
-    }
-    tree_call_named(hosts, word, rest)
 }
 
-#[tactic(auto, unfolding(crate::specs::Reading::tree_call_named))]
-fn tree_call_named(hosts: &[HostPlan], word: &[u8], rest: &[u8]) -> Result<Directive, LineFault>
-    requires { length hosts.now ≤ most_hosts }
-    ensures { Gives (λ x. x) result (tree_call_named (names_of hosts.now) word.now (words_of rest.now)) }
+/// A call of this kind.
+#[tactic(auto, unfolding(crate::specs::Reading::call_at, crate::specs::Reading::register_at, crate::specs::Reading::unregister_at, crate::specs::Reading::beat_at, crate::specs::Reading::scan_at))]
+fn take_call(kind: CallKind, rest: &[u8]) -> Result<Directive, LineFault>
+    ensures { Gives (λ x. x) result (call_at kind (words_of rest.now)) }
 {
-    if word == b"mkdir".as_slice() {
-        return take_mkdir(rest);
+    match kind {
+        CallKind::Register => ended(unbound(HostCallOf::Register), rest),
+        CallKind::Unregister => ended(unbound(HostCallOf::Unregister), rest),
+        CallKind::Beat => ended(unbound(HostCallOf::Beat), rest),
+        CallKind::Scan => ended(unbound(HostCallOf::Scan), rest),
+        CallKind::Mkdir => take_mkdir(rest),
+        CallKind::Create => take_create(rest),
+        CallKind::Lookup => take_lookup(rest),
+        CallKind::List => take_list(rest),
+        CallKind::Stat => take_stat(rest),
+        CallKind::Map => take_map(rest),
+        CallKind::Resize => take_resize(rest),
+        CallKind::Remove => take_remove(rest),
+        CallKind::Rmdir => take_rmdir(rest),
+        CallKind::Rename => take_rename(rest),
+        CallKind::Open => take_open(rest),
+        CallKind::Close => take_close(rest),
+        CallKind::Put => take_put(rest),
+        CallKind::Get => take_get(rest),
     }
-    if word == b"create".as_slice() {
-        return take_create(rest);
-    }
-    if word == b"lookup".as_slice() {
-        return take_lookup(rest);
-    }
-    if word == b"list".as_slice() {
-        return take_list(rest);
-    }
-    if word == b"stat".as_slice() {
-        return take_stat(rest);
-    }
-    if word == b"map".as_slice() {
-        return take_map(rest);
-    }
-    change_named(hosts, word, rest)
-}
-
-#[tactic(auto, unfolding(crate::specs::Reading::change_named))]
-fn change_named(hosts: &[HostPlan], word: &[u8], rest: &[u8]) -> Result<Directive, LineFault>
-    requires { length hosts.now ≤ most_hosts }
-    ensures { Gives (λ x. x) result (change_named (names_of hosts.now) word.now (words_of rest.now)) }
-{
-    if word == b"resize".as_slice() {
-        return take_resize(rest);
-    }
-    if word == b"remove".as_slice() {
-        return take_remove(rest);
-    }
-    if word == b"rmdir".as_slice() {
-        return take_rmdir(rest);
-    }
-    if word == b"rename".as_slice() {
-        return take_rename(rest);
-    }
-    file_call_named(hosts, word, rest)
-}
-
-#[tactic(auto, unfolding(crate::specs::Reading::file_call_named))]
-fn file_call_named(hosts: &[HostPlan], word: &[u8], rest: &[u8]) -> Result<Directive, LineFault>
-    requires { length hosts.now ≤ most_hosts }
-    ensures { Gives (λ x. x) result (file_call_named (names_of hosts.now) word.now (words_of rest.now)) }
-{
-    if word == b"open".as_slice() {
-        return take_open(rest);
-    }
-    if word == b"close".as_slice() {
-        return take_close(rest);
-    }
-    if word == b"put".as_slice() {
-        return take_put(rest);
-    }
-    if word == b"get".as_slice() {
-        return take_get(rest);
-    }
-    arming_named(hosts, word, rest)
 }
 
 #[tactic(auto, unfolding(crate::specs::Reading::arming_named))]

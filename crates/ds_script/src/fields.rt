@@ -20,7 +20,8 @@ use ds_base::{GeomField, HostNo, Kind, Word};
 use ds_tree::{HostPlan, Point, Spoken, Var};
 use uuid::Uuid;
 
-/// The first word.
+/// The first word of a line, which has 1 to 255 visible bytes, and the line behind it. Without a word it is `Count`, and with
+/// one that can't stand in a line `Word`.
 #[tactic(auto, unfolding(crate::specs::Reading::word_at))]
 pub fn take_bytes(line: &[u8]) -> Result<(&[u8], &[u8]), LineFault>
     ensures read { Gives (λ x. (x.0.now, words_of x.1.now)) result (word_at (words_of line.now)) }
@@ -47,7 +48,7 @@ pub fn is_run(word: &[u8]) -> bool
     word.iter().all(|b| is_visible(*b))
 }
 
-/// The first word, to be kept.
+/// The same, with the word to be kept.
 pub fn take_word(line: &[u8]) -> Result<(Word, &[u8]), LineFault>
     ensures { Gives (λ x. (x.0, words_of x.1.now)) result (word_at (words_of line.now)) }
 {
@@ -56,7 +57,7 @@ pub fn take_word(line: &[u8]) -> Result<(Word, &[u8]), LineFault>
     Ok((word, rest))
 }
 
-/// What was read, where no words are left.
+/// What was read, where no words are left. Where one is, it is `Count`, or `Word` if it can't stand in a line.
 #[tactic(auto, unfolding(crate::specs::Reading::end_at))]
 pub fn ended<T: Drop>(read: T, line: &[u8]) -> Result<T, LineFault>
     ensures read { Gives (λ x. x) result (end_at read (words_of line.now)) }
@@ -69,7 +70,7 @@ pub fn ended<T: Drop>(read: T, line: &[u8]) -> Result<T, LineFault>
     }
 }
 
-/// What stands behind a keyword.
+/// The line behind this keyword, which is its first word. Another word is `Word`.
 #[tactic(auto, unfolding(crate::specs::Reading::keyword_at))]
 pub fn expect_keyword<'a>(keyword: &[u8], line: &'a [u8]) -> Result<&'a [u8], LineFault>
     ensures { Gives (λ x. words_of x.now) result (keyword_at keyword.now (words_of line.now)) }
@@ -81,7 +82,7 @@ pub fn expect_keyword<'a>(keyword: &[u8], line: &'a [u8]) -> Result<&'a [u8], Li
     Ok(rest)
 }
 
-/// A number in a range.
+/// The first word as a number from `low` to `high`, and the line behind it. Another word is `Number`.
 #[tactic(auto, unfolding(crate::specs::Reading::number_at))]
 pub fn take_number(low: u32, high: u32, line: &[u8]) -> Result<(u32, &[u8]), LineFault>
     ensures read { Gives (λ x. (x.0, words_of x.1.now)) result (number_at low high (words_of line.now)) }
@@ -93,7 +94,7 @@ pub fn take_number(low: u32, high: u32, line: &[u8]) -> Result<(u32, &[u8]), Lin
     Ok((n, rest))
 }
 
-/// The root or a variable.
+/// The first word as a key, `root` or a variable, and the line behind it. Another word is `Variable`.
 #[tactic(auto, unfolding(crate::specs::Reading::key_at))]
 pub fn take_key(line: &[u8]) -> Result<(Spoken, &[u8]), LineFault>
     ensures { Gives (λ x. (x.0, words_of x.1.now)) result (key_at (words_of line.now)) }
@@ -106,7 +107,7 @@ pub fn take_key(line: &[u8]) -> Result<(Spoken, &[u8]), LineFault>
     Ok((Spoken::Var(name), rest))
 }
 
-/// A variable.
+/// The first word as a variable, and the line behind it. Another word, `root` among them, is `Variable`.
 #[tactic(auto, unfolding(crate::specs::Reading::variable_at))]
 pub fn take_variable(line: &[u8]) -> Result<(Var, &[u8]), LineFault>
     ensures { Gives (λ x. (x.0, words_of x.1.now)) result (variable_at (words_of line.now)) }

@@ -29,7 +29,7 @@ pub enum Entry {
     Step { host: HostNo, turns: u32 },
 }
 
-/// Whether a line is passed over.
+/// Whether a line is passed over: it has no word, or its first byte that isn't a blank is `#`.
 pub fn is_comment(line: &[u8]) -> bool
     ensures { result ≡ is_comment (words_of line.now) }
 {
@@ -39,7 +39,8 @@ pub fn is_comment(line: &[u8]) -> bool
     }
 }
 
-/// The line of a volume: its id and its geometry.
+/// The line of a volume: its id and its geometry, each number of which is in its range. Another first word is `Volume`. How many
+/// sectors the volume has isn't looked at.
 #[tactic(auto, unfolding(crate::specs::Reading::volume_line_at))]
 pub fn take_volume_line(line: &[u8]) -> Result<(Uuid, Geom), LineFault>
     ensures read { Gives (λ x. x) result (volume_line_at (words_of line.now)) }

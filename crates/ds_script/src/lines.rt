@@ -6,7 +6,7 @@ ghost use Rattle.std.specs.List.{prefix_len, position_or_len};
 ghost use Rattle.ds_tree.specs.Lines.{lines_of, words_of, is_blank, is_visible};
 ghost use Rattle.ds_script.specs.Fronts.{is_line_feed, begins_blank};
 
-/// The first line of a text, without the line feed that ends it, and the text behind it.
+/// The first line of a text, without the line feed that ends it, and the text behind it; none of an empty text.
 pub fn next_line(text: &[u8]) -> Option<(&[u8], &[u8])>
     ensures line { MatchOption result (lines_of text.now ≡ []) (λ found. lines_of text.now ≡ found.0.now ∷ lines_of found.1.now) }
     ensures shorter { IfSome result (λ found. length found.1.now < length text.now) }
@@ -18,7 +18,8 @@ pub fn next_line(text: &[u8]) -> Option<(&[u8], &[u8])>
     Some((&text[..end], past_line_feed(&text[end..])))
 }
 
-/// The first word of a line, and the line behind it.
+/// The first word of a line, and the line behind it; none where there are blanks alone. A byte that is neither a blank nor
+/// visible is a word of its own.
 pub fn next_word(line: &[u8]) -> Option<(&[u8], &[u8])>
     ensures word { MatchOption result (words_of line.now ≡ []) (λ found. words_of line.now ≡ found.0.now ∷ words_of found.1.now) }
     ensures shorter { IfSome result (λ found. length found.1.now < length line.now) }

@@ -5,7 +5,7 @@ ghost use Rattle.std.specs.Prelude.{◌≡◌, ◌≤◌, ◌<◌, ◌^◌, Matc
 ghost use Rattle.std.specs.List.{list_all};
 ghost use Rattle.ds_tree.specs.Lines.{is_digit, is_number, is_number_in, number_of, value_from};
 
-/// The number that a word is, if it is one in this range.
+/// The number that a word is, if it is one from `low` to `high`.
 pub fn number_in(low: u32, high: u32, word: &[u8]) -> Option<u32>
     ensures { MatchOption result (is_number_in low high word.now ≡ false)
         (λ n. (is_number_in low high word.now ≡ true) × (n ≡ number_of word.now)) }

@@ -8,9 +8,9 @@ ghost use Rattle.ds_tree.specs.Grammar.{Host, IsScenario, SpellsText, Step, Volu
 ghost use Rattle.ds_script.specs.Answers.{IsScenarioText};
 ghost use Rattle.ds_script.specs.Printed.{IsPrinted, behind_blanks, item_text, list_text, printed_text};
 
-use crate::growing::Growing;
 use crate::spelling::{write_awaited, write_directive};
 use ds_base::{Geom, HostNo, NoMemory};
+use ds_text::Text;
 use ds_tree::{HostPlan, Scenario};
 use std::alloc::Global;
 use uuid::Uuid;
@@ -31,7 +31,7 @@ fn print_lines(alloc: Global, scenario: &Scenario) -> Result<Vec<u8>, NoMemory>
     ensures { IfOk result (λ text. IsPrinted text.items scenario.now) }
 {
     let hosts = scenario.hosts.as_slice();
-    let mut text = Growing::new(alloc);
+    let mut text = Text::new(alloc);
     write_volume(&mut text, &scenario.volume, &scenario.geom)?;
     write_hosts(&mut text, hosts)?;
     write_lists(&mut text, hosts)?;
@@ -39,18 +39,18 @@ fn print_lines(alloc: Global, scenario: &Scenario) -> Result<Vec<u8>, NoMemory>
     Ok(text.into_bytes())
 }
 
-fn write_volume(text: &mut Growing, id: &Uuid, geom: &Geom) -> Result<(), NoMemory>
+fn write_volume(text: &mut Text, id: &Uuid, geom: &Geom) -> Result<(), NoMemory>
     ensures line { OnOk result (text.new ≡ text.old ++ item_text [] (Volume id.now geom.now)) }
     ensures id { OnOk result (parsed (hyphenated_text lower id.now) ≡ Some id.now) }
 {
     let mut buffer = Uuid::encode_buffer();
-    text.first_word(b"volume")?;
+    text.bytes(b"volume")?;
     text.word(id.hyphenated().encode_lower(&mut buffer).as_bytes())?;
     write_geometry(text, geom)?;
     text.end_line()
 }
 
-fn write_geometry(text: &mut Growing, geom: &Geom) -> Result<(), NoMemory>
+fn write_geometry(text: &mut Text, geom: &Geom) -> Result<(), NoMemory>
     ensures { OnOk result (text.new ≡ text.old ++ behind_blanks (geometry_part geom.now)) }
 {
     write_sizes(text, geom.slots, geom.block)?;
@@ -60,30 +60,30 @@ fn write_geometry(text: &mut Growing, geom: &Geom) -> Result<(), NoMemory>
     write_kind(text, b"fb", geom.clusters[3], geom.items[3])
 }
 
-fn write_sizes(text: &mut Growing, slots: u8, block: u16) -> Result<(), NoMemory>
+fn write_sizes(text: &mut Text, slots: u8, block: u16) -> Result<(), NoMemory>
     ensures { OnOk result (text.new ≡ text.old
         ++ behind_blanks (codes "slots" ∷ decimal slots ∷ codes "block" ∷ decimal block ∷ [])) }
 {
     text.word(b"slots")?;
-    text.number(u32::from(slots))?;
+    text.number_word(u64::from(slots))?;
     text.word(b"block")?;
-    text.number(u32::from(block))
+    text.number_word(u64::from(block))
 }
 
 /// The clusters of a kind, and the items of each.
-fn write_kind(text: &mut Growing, word: &[u8], clusters: u8, items: u16) -> Result<(), NoMemory>
+fn write_kind(text: &mut Text, word: &[u8], clusters: u8, items: u16) -> Result<(), NoMemory>
     ensures { OnOk result (text.new ≡ text.old ++ behind_blanks (word.now ∷ decimal clusters ∷ decimal items ∷ [])) }
 {
     text.word(word)?;
-    text.number(u32::from(clusters))?;
-    text.number(u32::from(items))
+    text.number_word(u64::from(clusters))?;
+    text.number_word(u64::from(items))
 }
 
-fn write_hosts(text: &mut Growing, hosts: &[HostPlan]) -> Result<(), NoMemory>
+fn write_hosts(text: &mut Text, hosts: &[HostPlan]) -> Result<(), NoMemory>
     ensures { OnOk result (text.new ≡ text.old ++ flat_map (λ plan. item_text [] (Host plan.name)) hosts.now) }
 {
     for plan in hosts {
-        text.first_word(b"host")?;
+        text.bytes(b"host")?;
         text.word(plan.name.bytes())?;
         text.end_line()?;
     }
@@ -91,7 +91,7 @@ fn write_hosts(text: &mut Growing, hosts: &[HostPlan]) -> Result<(), NoMemory>
 }
 
 /// The directives of all hosts, host by host.
-fn write_lists(text: &mut Growing, hosts: &[HostPlan]) -> Result<(), NoMemory>
+fn write_lists(text: &mut Text, hosts: &[HostPlan]) -> Result<(), NoMemory>
     ensures { OnOk result (text.new ≡ text.old ++ flat_map (list_text (names_of hosts.now)) hosts.now) }
 {
     for plan in hosts {
@@ -101,26 +101,22 @@ fn write_lists(text: &mut Growing, hosts: &[HostPlan]) -> Result<(), NoMemory>
 }
 
 /// The directives of a host.
-fn write_list(text: &mut Growing, hosts: &[HostPlan], plan: &HostPlan) -> Result<(), NoMemory>
+fn write_list(text: &mut Text, hosts: &[HostPlan], plan: &HostPlan) -> Result<(), NoMemory>
     ensures { OnOk result (text.new ≡ text.old ++ list_text (names_of hosts.now) plan.now) }
 {
     for directive in plan.list.as_slice() {
-        text.first_word(plan.name.bytes())?;
+        text.bytes(plan.name.bytes())?;
         write_directive(text, hosts, directive)?;
         text.end_line()?;
     }
     Ok(())
 }
 
-fn write_steps(
-    text: &mut Growing,
-    hosts: &[HostPlan],
-    steps: &[(HostNo, u32)],
-) -> Result<(), NoMemory>
+fn write_steps(text: &mut Text, hosts: &[HostPlan], steps: &[(HostNo, u32)]) -> Result<(), NoMemory>
     ensures { OnOk result (text.new ≡ text.old ++ flat_map (λ step. item_text (names_of hosts.now) (Step step.0 step.1)) steps.now) }
 {
     for (host, turns) in steps {
-        text.first_word(b"step")?;
+        text.bytes(b"step")?;
         write_awaited(text, hosts, *host, *turns)?;
         text.end_line()?;
     }

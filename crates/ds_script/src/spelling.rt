@@ -2,15 +2,16 @@
 #![tactic(auto)]
 
 ghost use Rattle.std.specs.Prelude.{◌≡◌, ◌++◌, ◌∷◌, [], OnOk, codes, decimal};
-ghost use Rattle.ds_tree.specs.Grammar.{after_part, as_part, key_word, landing_word, names_of, point_word};
-ghost use Rattle.ds_script.specs.Printed.{behind_blanks, call_words, directive_words, name_at, tree_call_words};
+ghost use Rattle.ds_tree.specs.CallKinds.{kind_word};
+ghost use Rattle.ds_tree.specs.Grammar.{after_part, as_part, call_words, key_word, landing_word, names_of, point_word, tree_call_words};
+ghost use Rattle.ds_script.specs.Printed.{behind_blanks, directive_words, name_at};
 
-use crate::growing::Growing;
 use ds_base::{HostNo, NoMemory, Word};
-use ds_tree::{CallOf, Directive, HostCallOf, HostPlan, Point, Spoken, Var};
+use ds_text::Text;
+use ds_tree::{CallKind, CallOf, Directive, HostCallOf, HostPlan, Point, Spoken, Var};
 
 pub fn write_directive(
-    text: &mut Growing,
+    text: &mut Text,
     hosts: &[HostPlan],
     directive: &Directive,
 ) -> Result<(), NoMemory>
@@ -23,7 +24,7 @@ pub fn write_directive(
         }
         Directive::Tick { ticks } => {
             text.word(b"tick")?;
-            text.number(*ticks)
+            text.number_word(u64::from(*ticks))
         }
         Directive::Wait { host, directive } => {
             text.word(b"wait")?;
@@ -52,82 +53,82 @@ pub fn write_directive(
     }
 }
 
-fn write_call(text: &mut Growing, call: &HostCallOf<Spoken>) -> Result<(), NoMemory>
+fn write_call(text: &mut Text, call: &HostCallOf<Spoken>) -> Result<(), NoMemory>
     ensures { OnOk result (text.new ≡ text.old ++ behind_blanks (call_words call.now)) }
 {
     match call {
         HostCallOf::Tree(call) => write_tree_call(text, call),
-        HostCallOf::Register => text.word(b"register"),
-        HostCallOf::Unregister => text.word(b"unregister"),
-        HostCallOf::Beat => text.word(b"beat"),
-        HostCallOf::Scan => text.word(b"scan"),
-        HostCallOf::Close { file } => write_keyed(text, b"close", file),
+        HostCallOf::Register => text.word(CallKind::Register.word()),
+        HostCallOf::Unregister => text.word(CallKind::Unregister.word()),
+        HostCallOf::Beat => text.word(CallKind::Beat.word()),
+        HostCallOf::Scan => text.word(CallKind::Scan.word()),
+        HostCallOf::Close { file } => write_keyed(text, CallKind::Close, file),
         HostCallOf::Put { file, sector, fill } => {
-            write_counted(text, b"put", file, *sector)?;
-            text.number(u32::from(*fill))
+            write_counted(text, CallKind::Put, file, *sector)?;
+            text.number_word(u64::from(*fill))
         }
-        HostCallOf::Get { file, sector } => write_counted(text, b"get", file, *sector),
+        HostCallOf::Get { file, sector } => write_counted(text, CallKind::Get, file, *sector),
     }
 }
 
 /// A call on the file tree. The reading of a block's number has no words: no text asks for it.
-fn write_tree_call(text: &mut Growing, call: &CallOf<Spoken>) -> Result<(), NoMemory>
+fn write_tree_call(text: &mut Text, call: &CallOf<Spoken>) -> Result<(), NoMemory>
     ensures { OnOk result (text.new ≡ text.old ++ behind_blanks (tree_call_words call.now)) }
 {
     match call {
-        CallOf::Mkdir { dir, name } => write_named(text, b"mkdir", dir, name),
-        CallOf::Create { dir, name } => write_named(text, b"create", dir, name),
-        CallOf::Lookup { dir, name } => write_named(text, b"lookup", dir, name),
+        CallOf::Mkdir { dir, name } => write_named(text, CallKind::Mkdir, dir, name),
+        CallOf::Create { dir, name } => write_named(text, CallKind::Create, dir, name),
+        CallOf::Lookup { dir, name } => write_named(text, CallKind::Lookup, dir, name),
         CallOf::List { dir, after } => {
-            write_keyed(text, b"list", dir)?;
+            write_keyed(text, CallKind::List, dir)?;
             write_after(text, after)
         }
-        CallOf::Stat { key } => write_keyed(text, b"stat", key),
-        CallOf::Map { file, page } => write_counted(text, b"map", file, *page),
-        CallOf::Resize { file, blocks } => write_counted(text, b"resize", file, *blocks),
-        CallOf::Remove { dir, name } => write_named(text, b"remove", dir, name),
-        CallOf::Rmdir { dir, name } => write_named(text, b"rmdir", dir, name),
+        CallOf::Stat { key } => write_keyed(text, CallKind::Stat, key),
+        CallOf::Map { file, page } => write_counted(text, CallKind::Map, file, *page),
+        CallOf::Resize { file, blocks } => write_counted(text, CallKind::Resize, file, *blocks),
+        CallOf::Remove { dir, name } => write_named(text, CallKind::Remove, dir, name),
+        CallOf::Rmdir { dir, name } => write_named(text, CallKind::Rmdir, dir, name),
         CallOf::Rename {
             dir,
             name,
             to,
             fresh,
         } => {
-            write_named(text, b"rename", dir, name)?;
+            write_named(text, CallKind::Rename, dir, name)?;
             text.word(key_word(to))?;
             text.word(fresh.bytes())
         }
-        CallOf::OpenFile { file } => write_keyed(text, b"open", file),
+        CallOf::OpenFile { file } => write_keyed(text, CallKind::Open, file),
         CallOf::At { .. } => Ok(()),
     }
 }
 
-/// A first word and a key.
-fn write_keyed(text: &mut Growing, word: &[u8], key: &Spoken) -> Result<(), NoMemory>
-    ensures { OnOk result (text.new ≡ text.old ++ behind_blanks (word.now ∷ key_word key.now ∷ [])) }
+/// The word of a call and a key.
+fn write_keyed(text: &mut Text, kind: CallKind, key: &Spoken) -> Result<(), NoMemory>
+    ensures { OnOk result (text.new ≡ text.old ++ behind_blanks (kind_word kind ∷ key_word key.now ∷ [])) }
 {
-    text.word(word)?;
+    text.word(kind.word())?;
     text.word(key_word(key))
 }
 
-/// A first word, a key and a number.
-fn write_counted(text: &mut Growing, word: &[u8], key: &Spoken, number: u32) -> Result<(), NoMemory>
-    ensures { OnOk result (text.new ≡ text.old ++ behind_blanks (word.now ∷ key_word key.now ∷ decimal number ∷ [])) }
+/// The word of a call, a key and a number.
+fn write_counted(text: &mut Text, kind: CallKind, key: &Spoken, number: u32) -> Result<(), NoMemory>
+    ensures { OnOk result (text.new ≡ text.old ++ behind_blanks (kind_word kind ∷ key_word key.now ∷ decimal number ∷ [])) }
 {
-    write_keyed(text, word, key)?;
-    text.number(number)
+    write_keyed(text, kind, key)?;
+    text.number_word(u64::from(number))
 }
 
-/// A first word, a directory and a name in it.
-fn write_named(text: &mut Growing, word: &[u8], dir: &Spoken, name: &Word) -> Result<(), NoMemory>
-    ensures { OnOk result (text.new ≡ text.old ++ behind_blanks (word.now ∷ key_word dir.now ∷ name.now ∷ [])) }
+/// The word of a call, a directory and a name in it.
+fn write_named(text: &mut Text, kind: CallKind, dir: &Spoken, name: &Word) -> Result<(), NoMemory>
+    ensures { OnOk result (text.new ≡ text.old ++ behind_blanks (kind_word kind ∷ key_word dir.now ∷ name.now ∷ [])) }
 {
-    write_keyed(text, word, dir)?;
+    write_keyed(text, kind, dir)?;
     text.word(name.bytes())
 }
 
 /// The variable that takes a key, if one does.
-fn write_bind(text: &mut Growing, bind: &Option<Var>) -> Result<(), NoMemory>
+fn write_bind(text: &mut Text, bind: &Option<Var>) -> Result<(), NoMemory>
     ensures { OnOk result (text.new ≡ text.old ++ behind_blanks (as_part bind.now)) }
 {
     match bind {
@@ -140,7 +141,7 @@ fn write_bind(text: &mut Growing, bind: &Option<Var>) -> Result<(), NoMemory>
 }
 
 /// The word behind which a list begins, if there is one.
-fn write_after(text: &mut Growing, after: &Option<Word>) -> Result<(), NoMemory>
+fn write_after(text: &mut Text, after: &Option<Word>) -> Result<(), NoMemory>
     ensures { OnOk result (text.new ≡ text.old ++ behind_blanks (after_part after.now)) }
 {
     match after {
@@ -154,7 +155,7 @@ fn write_after(text: &mut Growing, after: &Option<Word>) -> Result<(), NoMemory>
 
 /// A host, and a number of a directive or of turns.
 pub fn write_awaited(
-    text: &mut Growing,
+    text: &mut Text,
     hosts: &[HostPlan],
     host: HostNo,
     number: u32,
@@ -162,7 +163,7 @@ pub fn write_awaited(
     ensures { OnOk result (text.new ≡ text.old ++ behind_blanks (name_at (names_of hosts.now) host ∷ decimal number ∷ [])) }
 {
     text.word(name_of(hosts, host))?;
-    text.number(number)
+    text.number_word(u64::from(number))
 }
 
 /// The name of a host; none where there is no such host.

@@ -41,7 +41,7 @@ impl Space {
 impl Plan for Space {
     ghost use Rattle.std.specs.Prelude.{◌≡◌};
     ghost use Rattle.ds_image.specs.Parts.{Parts};
-    ghost use Rattle.ds_image.specs.Readings.{Reads};
+    ghost use Rattle.ds_image.specs.Readings.{ReadsParts};
     ghost use Rattle.ds_image.specs.SeenValues.{look_of};
     ghost use Rattle.ds_plan_resize.specs.Answers.{answers_of, call_of};
     ghost use Rattle.ds_plan_resize.proofs.Laws.{resize_allowed, resize_few, resize_keeps};
@@ -55,7 +55,7 @@ impl Plan for Space {
     ghost answers = { answers_of };
 
     fn ask(&self, seen: &Seen) -> Ask
-        ensures { (p : Parts) → Reads self.now.geom (look_of seen.now) p → result ≡ answers_of self.now seen.now p }
+        ensures { (p : Parts) → ReadsParts self.now.geom (look_of seen.now) p → result ≡ answers_of self.now seen.now p }
     {
         self.resize.ask(seen)
     }

@@ -7,6 +7,3 @@ mod transfers;
 
 pub use execution::{ScsiReply, execute};
 pub use sending::send;
-
-#[cfg(test)]
-mod tests;

@@ -7,6 +7,7 @@ use Rattle.ds_base.specs.declared.geometry.Geom.{Geom}
 use Rattle.ds_base.specs.declared.geometry.Kind.{Kind}
 use Rattle.ds_base.specs.declared.geometry.Kind.TheVariants.{Fd, Sb, Pb, Fb}
 use Rattle.ds_base.specs.Geometry.{IsGeom, clusters_of, per_cluster}
+use Rattle.ds_tree.specs.declared.call_kinds.CallKind.TheVariants as kinds
 use Rattle.ds_tree.specs.declared.calls.CallOf.{CallOf}
 use Rattle.ds_tree.specs.declared.calls.CallOf.TheVariants as calls
 use Rattle.ds_tree.specs.declared.calls.HostCallOf.{HostCallOf}
@@ -19,6 +20,7 @@ use Rattle.ds_tree.specs.declared.scenarios.Point.TheVariants as points
 use Rattle.ds_tree.specs.declared.scenarios.Scenario.{Scenario}
 use Rattle.ds_tree.specs.declared.variables.Spoken.{Spoken}
 use Rattle.ds_tree.specs.declared.variables.Spoken.TheVariants.{Root, Var}
+use Rattle.ds_tree.specs.CallKinds.{kind_word}
 use Rattle.ds_tree.specs.Lines.{Words, is_word, kept_lines}
 use Rattle.ds_tree.specs.Variables.{IsVariable, is_lower_or_digit}
 
@@ -77,31 +79,40 @@ abbrev pub after_part : Option (List ℕ) → Words
 after_part None = []
 after_part (Some name) = codes "after" ∷ name ∷ []
 
--- the words write out this call on the file tree; there are none for the reading of a block's number
+-- the words of a call on the file tree; there are none for the reading of a block's number, which no text asks for
+abbrev pub tree_call_words : CallOf Spoken → Words
+tree_call_words (calls.Mkdir dir name) = kind_word kinds.Mkdir ∷ key_word dir ∷ name ∷ []
+tree_call_words (calls.Create dir name) = kind_word kinds.Create ∷ key_word dir ∷ name ∷ []
+tree_call_words (calls.Lookup dir name) = kind_word kinds.Lookup ∷ key_word dir ∷ name ∷ []
+tree_call_words (calls.List dir after) = kind_word kinds.List ∷ key_word dir ∷ after_part after
+tree_call_words (calls.Stat key) = kind_word kinds.Stat ∷ key_word key ∷ []
+tree_call_words (calls.Map file page) = kind_word kinds.Map ∷ key_word file ∷ decimal page ∷ []
+tree_call_words (calls.Resize file blocks) = kind_word kinds.Resize ∷ key_word file ∷ decimal blocks ∷ []
+tree_call_words (calls.Remove dir name) = kind_word kinds.Remove ∷ key_word dir ∷ name ∷ []
+tree_call_words (calls.Rmdir dir name) = kind_word kinds.Rmdir ∷ key_word dir ∷ name ∷ []
+tree_call_words (calls.Rename dir name to fresh) = kind_word kinds.Rename ∷ key_word dir ∷ name ∷ key_word to ∷ fresh ∷ []
+tree_call_words (calls.OpenFile file) = kind_word kinds.Open ∷ key_word file ∷ []
+tree_call_words (calls.At file index) = []
+
+abbrev pub call_words : HostCallOf Spoken → Words
+call_words (host_calls.Tree call) = tree_call_words call
+call_words host_calls.Register = kind_word kinds.Register ∷ []
+call_words host_calls.Unregister = kind_word kinds.Unregister ∷ []
+call_words host_calls.Beat = kind_word kinds.Beat ∷ []
+call_words host_calls.Scan = kind_word kinds.Scan ∷ []
+call_words (host_calls.Close file) = kind_word kinds.Close ∷ key_word file ∷ []
+call_words (host_calls.Put file sector fill) = kind_word kinds.Put ∷ key_word file ∷ decimal sector ∷ decimal fill ∷ []
+call_words (host_calls.Get file sector) = kind_word kinds.Get ∷ key_word file ∷ decimal sector ∷ []
+
+-- the words write out this call on the file tree
 abbrev pub SpellsTreeCall : Words → CallOf Spoken → Type 0
-SpellsTreeCall ws (calls.Mkdir dir name) = ws ≡ codes "mkdir" ∷ key_word dir ∷ name ∷ []
-SpellsTreeCall ws (calls.Create dir name) = ws ≡ codes "create" ∷ key_word dir ∷ name ∷ []
-SpellsTreeCall ws (calls.Lookup dir name) = ws ≡ codes "lookup" ∷ key_word dir ∷ name ∷ []
-SpellsTreeCall ws (calls.List dir after) = ws ≡ codes "list" ∷ key_word dir ∷ after_part after
-SpellsTreeCall ws (calls.Stat key) = ws ≡ codes "stat" ∷ key_word key ∷ []
-SpellsTreeCall ws (calls.Map file page) = ws ≡ codes "map" ∷ key_word file ∷ decimal page ∷ []
-SpellsTreeCall ws (calls.Resize file blocks) = ws ≡ codes "resize" ∷ key_word file ∷ decimal blocks ∷ []
-SpellsTreeCall ws (calls.Remove dir name) = ws ≡ codes "remove" ∷ key_word dir ∷ name ∷ []
-SpellsTreeCall ws (calls.Rmdir dir name) = ws ≡ codes "rmdir" ∷ key_word dir ∷ name ∷ []
-SpellsTreeCall ws (calls.Rename dir name to fresh) = ws ≡ codes "rename" ∷ key_word dir ∷ name ∷ key_word to ∷ fresh ∷ []
-SpellsTreeCall ws (calls.OpenFile file) = ws ≡ codes "open" ∷ key_word file ∷ []
 SpellsTreeCall ws (calls.At file index) = ⊥
+SpellsTreeCall ws call = ws ≡ tree_call_words call
 
 -- the words write out this call
 abbrev pub SpellsCall : Words → HostCallOf Spoken → Type 0
 SpellsCall ws (host_calls.Tree call) = SpellsTreeCall ws call
-SpellsCall ws host_calls.Register = ws ≡ codes "register" ∷ []
-SpellsCall ws host_calls.Unregister = ws ≡ codes "unregister" ∷ []
-SpellsCall ws host_calls.Beat = ws ≡ codes "beat" ∷ []
-SpellsCall ws host_calls.Scan = ws ≡ codes "scan" ∷ []
-SpellsCall ws (host_calls.Close file) = ws ≡ codes "close" ∷ key_word file ∷ []
-SpellsCall ws (host_calls.Put file sector fill) = ws ≡ codes "put" ∷ key_word file ∷ decimal sector ∷ decimal fill ∷ []
-SpellsCall ws (host_calls.Get file sector) = ws ≡ codes "get" ∷ key_word file ∷ decimal sector ∷ []
+SpellsCall ws call = ws ≡ call_words call
 
 -- this word is the name of the host with this number
 abbrev pub IsNameOf : Words → ℕ → List ℕ → Type 0

@@ -7,6 +7,7 @@ pub mod FirstForm
 pub mod InMemory
 pub mod Codes
 pub mod CallNames
+pub mod CallKinds
 pub mod WellFormed
 pub mod Lowest
 pub mod Lines

@@ -216,11 +216,11 @@ impl CallOf<Spoken> {
 fn copy_of(word: &Word) -> Result<Word, NoMemory>
     ensures { IfOk result (λ copied. copied ≡ word.now) }
 {
-    word.clone().map_err(|_| NoMemory)
+    Ok(word.clone()?)
 }
 
 fn copy_of_optional(word: &Option<Word>) -> Result<Option<Word>, NoMemory>
     ensures { IfOk result (λ copied. copied ≡ word.now) }
 {
-    word.clone().map_err(|_| NoMemory)
+    Ok(word.clone()?)
 }

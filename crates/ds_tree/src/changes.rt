@@ -106,7 +106,7 @@ impl Table {
         let mut free = Vec::new(self.alloc());
         for block in 0..self.items(Kind::Fb) {
             if free.len() < count && !used[block as usize] {
-                free.push(block).map_err(|_| NoMemory)?;
+                free.push(block)?;
             }
         }
         Ok(free)

@@ -6,7 +6,7 @@ ghost use Rattle.ds_tree.specs.WellFormed.{IsTree};
 
 use crate::objects::{NodeInMemory, ObjectInMemory};
 use crate::tables::Table;
-use ds_base::Kind;
+use ds_base::{ADDRESSES, Kind, PAGE};
 
 impl Table {
     /// The items of a kind that no object uses.
@@ -23,10 +23,10 @@ pub(crate) fn pointer_blocks(blocks: u64) -> u64
     requires { blocks < 2 ^ 63 }
     ensures { result ≡ pointer_blocks blocks }
 {
-    if blocks <= 96 {
+    if blocks <= u64::from(ADDRESSES) {
         0
     } else {
-        (blocks + 127) / 128
+        blocks.div_ceil(u64::from(PAGE))
     }
 }
 

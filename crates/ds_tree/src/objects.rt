@@ -236,5 +236,5 @@ fn set_size(blocks: &mut Vec<u32>, size: usize, added: &[u32]) -> Result<(), NoM
         blocks.truncate(size);
         return Ok(());
     }
-    blocks.extend_from_slice(added).map_err(|_| NoMemory)
+    Ok(blocks.extend_from_slice(added)?)
 }

@@ -8,13 +8,9 @@ ghost use Rattle.ds_tree.specs.Trees.{entries_of};
 ghost use Rattle.ds_tree.specs.WellFormed.{IsTree};
 
 use crate::objects::NodeInMemory;
-use crate::refusals::name_of;
 use crate::tables::Table;
 use arrayvec::ArrayVec;
-use ds_base::{Key, Name, NoMemory, NodeKind, ObjNo, Word};
-
-/// The blocks of a page of a file's map.
-const PAGE: usize = 128;
+use ds_base::{Key, Name, NoMemory, NodeKind, ObjNo, PAGE, Word};
 
 impl Table {
     /// The object of an entry, and what it is.
@@ -57,8 +53,8 @@ impl Table {
         ensures { result.items ≡ take 128 (drop (128 * page) (blocks_of (node_at self.now.tree file))) }
     {
         let blocks = self.blocks(file);
-        let from = blocks.len().min(PAGE * page as usize);
-        let end = blocks.len().min(from + PAGE);
+        let from = blocks.len().min(PAGE as usize * page as usize);
+        let end = blocks.len().min(from + PAGE as usize);
         let mut list = ArrayVec::new();
         let _ = list.try_extend_from_slice(&blocks[from..end]);
         list
@@ -93,7 +89,7 @@ impl Table {
         let mut page = ArrayVec::new();
         let mut rest = entries.above(after);
         while let Some((name, object)) = rest.next() {
-            let name = copy_of(name)?;
+            let name = name.copy();
             page.push((name, self.key_of(*object)));
             if page.is_full() {
                 return Ok(page);
@@ -109,13 +105,7 @@ pub(crate) fn after_of(after: &Option<Word>) -> Option<Name>
     ensures { result ≡ after.now }
 {
     match after {
-        Some(word) => Some(name_of(word)),
+        Some(word) => Some(Name::of_word(word)),
         None => None,
     }
-}
-
-fn copy_of(name: &Name) -> Result<Name, NoMemory>
-    ensures { IfOk result (λ copy. copy ≡ name.now) }
-{
-    name.clone().map_err(|_| NoMemory)
 }

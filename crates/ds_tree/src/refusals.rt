@@ -11,7 +11,7 @@ use crate::counts::pointer_blocks;
 use crate::listing::Listing;
 use crate::objects::NodeInMemory;
 use crate::tables::Table;
-use ds_base::{Key, Kind, Name, ObjNo, Word};
+use ds_base::{Key, Kind, MOST_BLOCKS, MOST_ENTRIES, Name, ObjNo, Word};
 
 impl Table {
     /// The first refusal of a call whose condition holds; `None` where the call succeeds.
@@ -53,10 +53,10 @@ impl Table {
         let NodeInMemory::Dir { entries, rooms } = node else {
             return Some(TreeReply::NotDir);
         };
-        if entries.get(&name_of(word)).is_some() {
+        if entries.get(&Name::of_word(word)).is_some() {
             return Some(TreeReply::Exists);
         }
-        if entries.len() >= 384 {
+        if entries.len() >= MOST_ENTRIES as usize {
             return Some(TreeReply::DirFull);
         }
         if self.free(Kind::Fd) == 0 {
@@ -86,7 +86,7 @@ impl Table {
         let NodeInMemory::Dir { entries, .. } = node else {
             return Some(TreeReply::NotDir);
         };
-        if entries.get(&name_of(word)).is_none() {
+        if entries.get(&Name::of_word(word)).is_none() {
             return Some(TreeReply::NotFound);
         }
         None
@@ -150,7 +150,7 @@ impl Table {
         };
         let old = blocks.len() as u64;
         let size = u64::from(size);
-        if size > 12288 {
+        if size > u64::from(MOST_BLOCKS) {
             return Some(TreeReply::TooBig);
         }
         if size.abs_diff(old) > 1024 {
@@ -176,7 +176,7 @@ impl Table {
         let NodeInMemory::Dir { entries, .. } = node else {
             return Some(TreeReply::NotDir);
         };
-        let Some(object) = entries.get(&name_of(word)) else {
+        let Some(object) = entries.get(&Name::of_word(word)) else {
             return Some(TreeReply::NotFound);
         };
         match self.node_at(object) {
@@ -196,7 +196,7 @@ impl Table {
         let NodeInMemory::Dir { entries, .. } = node else {
             return Some(TreeReply::NotDir);
         };
-        let Some(object) = entries.get(&name_of(word)) else {
+        let Some(object) = entries.get(&Name::of_word(word)) else {
             return Some(TreeReply::NotFound);
         };
         match self.node_at(object) {
@@ -256,19 +256,19 @@ impl Table {
         requires tree { IsTree self.now.geom self.now.tree }
         ensures { result ≡ steps.refuses_rename self.now.geom self.now.tree same word.now fresh.now entries.now others.now rooms }
     {
-        let Some(object) = entries.get(&name_of(word)) else {
+        let Some(object) = entries.get(&Name::of_word(word)) else {
             return Some(TreeReply::NotFound);
         };
         if self.is_dir(object) && !same {
             return Some(TreeReply::CrossDir);
         }
-        if others.get(&name_of(fresh)).is_some() {
+        if others.get(&Name::of_word(fresh)).is_some() {
             return Some(TreeReply::Exists);
         }
         if same {
             return None;
         }
-        if others.len() >= 384 {
+        if others.len() >= MOST_ENTRIES as usize {
             return Some(TreeReply::DirFull);
         }
         self.refuses_room(others, rooms)
@@ -278,16 +278,5 @@ impl Table {
         ensures { result ≡ steps.is_dir (node_at self.now.tree object) }
     {
         matches!(self.node_at(object), Some(NodeInMemory::Dir { .. }))
-    }
-}
-
-/// The name that a word is.
-pub(crate) fn name_of(word: &Word) -> Name
-    requires { IsName word.now }
-    ensures { result ≡ word.now }
-{
-    match Name::read(word) {
-        Some(name) => name,
-        None => unreachable!(),
     }
 }

@@ -86,7 +86,7 @@ impl<T> Items<T> {
         ensures ok { OnOk result (self.new ≡ self.old ++ item ∷ []) }
         ensures err { OnErr result (self.new ≡ self.old) }
     {
-        self.items.push(item).map_err(|_| NoMemory)
+        Ok(self.items.push(item)?)
     }
 
     pub fn as_slice(&self) -> &[T]
@@ -143,7 +143,7 @@ impl HostPlan {
         for directive in self.list.as_slice() {
             list.push(directive.copy()?)?;
         }
-        let name = self.name.clone().map_err(|_| NoMemory)?;
+        let name = self.name.clone()?;
         Ok(HostPlan { name, list })
     }
 }
@@ -186,5 +186,5 @@ impl Directive {
 fn copy_of(bind: &Option<Var>) -> Result<Option<Var>, NoMemory>
     ensures { IfOk result (λ copied. copied ≡ bind.now) }
 {
-    bind.clone().map_err(|_| NoMemory)
+    Ok(bind.clone()?)
 }

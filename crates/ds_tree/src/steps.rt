@@ -8,9 +8,8 @@ ghost use Rattle.ds_tree.specs.WellFormed.{IsTree};
 
 use crate::calls::{Call, CallOf, TreeReply};
 use crate::reads::after_of;
-use crate::refusals::name_of;
 use crate::tables::Table;
-use ds_base::{NoMemory, NodeKind};
+use ds_base::{Name, NoMemory, NodeKind};
 
 impl Table {
     /// Carries out a call: refuses it, or changes the tree as the call asks, with the lowest free numbers.
@@ -43,15 +42,15 @@ impl Table {
     {
         match call {
             CallOf::Mkdir { dir, name } => {
-                let key = self.make(*dir, name_of(name), NodeKind::Dir)?;
+                let key = self.make(*dir, Name::of_word(name), NodeKind::Dir)?;
                 Ok(TreeReply::Made { key })
             }
             CallOf::Create { dir, name } => {
-                let key = self.make(*dir, name_of(name), NodeKind::File)?;
+                let key = self.make(*dir, Name::of_word(name), NodeKind::File)?;
                 Ok(TreeReply::Made { key })
             }
             CallOf::Lookup { dir, name } => {
-                let (key, kind) = self.lookup(*dir, &name_of(name));
+                let (key, kind) = self.lookup(*dir, &Name::of_word(name));
                 Ok(TreeReply::Found { key, kind })
             }
             CallOf::List { dir, after } => {
@@ -75,11 +74,11 @@ impl Table {
                 Ok(TreeReply::Sized { blocks: *size })
             }
             CallOf::Remove { dir, name } => {
-                let key = self.remove(*dir, &name_of(name));
+                let key = self.remove(*dir, &Name::of_word(name));
                 Ok(TreeReply::Gone { key })
             }
             CallOf::Rmdir { dir, name } => {
-                let key = self.remove(*dir, &name_of(name));
+                let key = self.remove(*dir, &Name::of_word(name));
                 Ok(TreeReply::Gone { key })
             }
             CallOf::Rename {
@@ -88,7 +87,7 @@ impl Table {
                 to,
                 fresh,
             } => {
-                let key = self.rename(*dir, &name_of(name), *to, name_of(fresh))?;
+                let key = self.rename(*dir, &Name::of_word(name), *to, Name::of_word(fresh))?;
                 Ok(TreeReply::Moved { key })
             }
             CallOf::OpenFile { file } => {

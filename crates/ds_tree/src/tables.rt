@@ -10,12 +10,9 @@ ghost use Rattle.ds_tree.specs.Trees.{TreeValue, entries_of, rooms_of, is_worn, 
 ghost use Rattle.ds_tree.specs.WellFormed.{IsTree};
 
 use crate::objects::{NodeInMemory, ObjectInMemory};
-use ds_base::{Geom, Key, Kind, Name, NoMemory, NodeKind, ObjNo};
+use ds_base::{Geom, Key, Kind, MOST_BIRTH, Name, NoMemory, NodeKind, ObjNo};
 use std::alloc::Global;
 use std::marker::Model;
-
-/// The last birth that an object may have.
-const MOST_BIRTH: u64 = 1 << 62;
 
 /// One object for each descriptor of a volume, with its geometry. It may break the rules of a tree.
 #[derive(Debug, Drop)]
@@ -49,13 +46,11 @@ impl Table {
         ensures tree { IfOk result (λ t. t.tree ≡ fresh_tree geom.now) }
         ensures rules { IfOk result (λ t. IsTree t.geom t.tree) }
     {
-        let count = count_of(geom, Kind::Fd);
-        let mut objects = Vec::with_capacity(alloc, count as usize).map_err(|_| NoMemory)?;
-        objects
-            .push(ObjectInMemory::dir(alloc, 1, 0))
-            .map_err(|_| NoMemory)?;
+        let count = geom.items(Kind::Fd);
+        let mut objects = Vec::with_capacity(alloc, count as usize)?;
+        objects.push(ObjectInMemory::dir(alloc, 1, 0))?;
         for number in 1..count {
-            objects.push(ObjectInMemory::free(0)).map_err(|_| NoMemory)?;
+            objects.push(ObjectInMemory::free(0))?;
         }
         Ok(Table {
             alloc,
@@ -69,7 +64,7 @@ impl Table {
         ensures objects { result ≡ length self.now.tree.objects }
         ensures descriptors { result ≡ items_of self.now.geom kinds.Fd }
     {
-        count_of(&self.geom, Kind::Fd)
+        self.geom.items(Kind::Fd)
     }
 
     /// Whether some number's last birth is 2^62 or more, so that its next one might be past the last.
@@ -207,7 +202,7 @@ impl Table {
     pub(crate) fn items(&self, kind: Kind) -> u32
         ensures value { result ≡ items_of self.now.geom kind }
     {
-        count_of(&self.geom, kind)
+        self.geom.items(kind)
     }
 
     /// Puts a new entry into a directory, with four more rooms where every room was used.
@@ -308,10 +303,4 @@ impl Table {
     {
         self.objects.get(object as usize)
     }
-}
-
-fn count_of(geom: &Geom, kind: Kind) -> u32
-    ensures { result ≡ items_of geom.now kind }
-{
-    u32::from(geom.clusters[kind as usize]) * u32::from(geom.items[kind as usize])
 }

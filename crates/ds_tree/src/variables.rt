@@ -87,6 +87,6 @@ impl Spoken {
     pub fn copy(&self) -> Result<Spoken, NoMemory>
         ensures { IfOk result (λ spoken. spoken ≡ self.now) }
     {
-        self.clone().map_err(|_| NoMemory)
+        Ok(self.clone()?)
     }
 }

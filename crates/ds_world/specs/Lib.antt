@@ -1,4 +1,5 @@
 pub mod LogValues
+pub mod Logged
 pub mod Store
 pub mod Moments
 pub mod Rules

@@ -1,5 +1,6 @@
 //! The log of a world: its events, and the replies to calls.
 ghost use Rattle.std.specs.Prelude.{◌≡◌, ◌↔◌, ◌<◌, ◌++◌, ◌∷◌, [], IsTrue, OnOk, length};
+ghost use Rattle.ds_world.specs.Logged.{AreLogged};
 
 use ds_base::{Command, Gen, HostNo, NoMemory, Response, SlotNo, Tick};
 use ds_host::HostAnswer;
@@ -41,7 +42,7 @@ pub struct Reply {
     pub place: Option<u32>,
 }
 
-/// The events and replies of a world, and room for more.
+/// The events and replies of a world, the replies in the order of their events, and room for more.
 #[derive(Debug, Drop)]
 pub struct Log {
     events: Vec<Event>,
@@ -50,6 +51,7 @@ pub struct Log {
 
 impl Model for Log {
     ghost use Rattle.std.specs.Prelude.{◌-◌, min, vec_len, vec_capacity};
+    ghost use Rattle.ds_world.specs.Logged.{AreLogged};
     ghost use Rattle.ds_world.specs.LogValues.{LogValue};
 
     ghost Value = { LogValue };
@@ -59,6 +61,8 @@ impl Model for Log {
       replies = log.replies.items;
       spare = min (vec_capacity log.events - vec_len log.events) (vec_capacity log.replies - vec_len log.replies);
     } };
+
+    ghost invariant = { λ log. AreLogged log.events.items log.replies.items };
 }
 
 impl Log {
@@ -79,8 +83,10 @@ impl Log {
         self.events.as_slice()
     }
 
+    /// The replies, in the order of their events.
     pub fn replies(&self) -> &[Reply]
-        ensures { result.now ≡ self.now.replies }
+        ensures replies { result.now ≡ self.now.replies }
+        ensures order { AreLogged self.now.events result.now }
     {
         self.replies.as_slice()
     }
@@ -117,9 +123,10 @@ impl Log {
         self.events.push_reserved(event);
     }
 
-    /// Adds an event and its reply.
+    /// Adds an event and the reply that is given in it.
     pub(crate) fn add_answered(&mut self, event: Event, reply: Reply)
-        requires { 0 < self.old.spare }
+        requires room { 0 < self.old.spare }
+        requires given { reply.event ≡ length self.old.events }
         ensures events { self.new.events ≡ self.old.events ++ event ∷ [] }
         ensures replies { self.new.replies ≡ self.old.replies ++ reply ∷ [] }
     {

@@ -1,7 +1,7 @@
 -- The findings of one more address are noted; behind the last nothing is found.
 use Rattle.std.proofs.Common.{◌≡◌, ◌+◌, ◌++◌, ◌/◌, ◌%◌, min, length, drop, ap, ◌∙◌, arith}
-use Rattle.ds_check.specs.Addresses.{address_at, pointer_block, is_bad_number}
-use Rattle.ds_check.specs.Objects.{past_last, most_addresses}
+use Rattle.ds_check.specs.Addresses.{address_at, past_last, most_addresses}
+use Rattle.ds_check.specs.AddressSteps.{pointer_block, is_bad_number}
 use Rattle.ds_check.specs.Rows.{find_if, row}
 use Rattle.ds_check.specs.declared.findings.Find.TheVariants.{Address}
 use Rattle.ds_check.proofs.LastAddresses.{all_addresses}

@@ -1,6 +1,7 @@
 -- The findings of the addresses so far are noted, and the pointer block of the last is kept.
 use Rattle.std.proofs.Common.{◌≡◌, ◌++◌, ◌<◌, ◌/◌, ◌%◌}
-use Rattle.ds_check.specs.Addresses.{address_at, pointer_block}
+use Rattle.ds_check.specs.Addresses.{address_at}
+use Rattle.ds_check.specs.AddressSteps.{pointer_block}
 use Rattle.ds_check.specs.Rows.{row}
 use Rattle.ds_check.proofs.addresses.note_body.Given as goal
 

@@ -5,7 +5,7 @@ use Rattle.ds_base.specs.declared.geometry.Geom.{Geom}
 use Rattle.ds_image.specs.BadSectors.{IsLeastBad}
 use Rattle.ds_image.specs.Faults.{IsFaultOf}
 use Rattle.ds_image.specs.ImageValues.{ImageValue, IsImage}
-use Rattle.ds_image.specs.Readings.{Reads}
+use Rattle.ds_image.specs.Readings.{ReadsParts}
 use Rattle.ds_image.specs.declared.images.ImageFault.{ImageFault}
 use Rattle.ds_check.specs.Checks.{StandsForTree}
 use Rattle.ds_check.specs.Findings.{AreFoundIn}
@@ -20,7 +20,7 @@ returns-in_ok-parts-in-Ok-clause-sound c =
     let p = c.in_ok-parts-in-Ok.parts in
     let whole : IsImage image.geom image.sectors = subst (λ (v : ImageValue). IsImage v.geom v.sectors) c.image.view_is c.image.invariant.0 in
     let is : IsImage g image.sectors = subst (λ (h : Geom). IsImage h image.sectors) c.in-Ok.ensures.geom whole in
-    let reads : Reads g (slice_get image.sectors) p = subst (λ (h : Geom). Reads h (slice_get image.sectors) p) c.in-Ok.ensures.geom c.in_ok-parts-in-Ok.ensures in
+    let reads : ReadsParts g (slice_get image.sectors) p = subst (λ (h : Geom). ReadsParts h (slice_get image.sectors) p) c.in-Ok.ensures.geom c.in_ok-parts-in-Ok.ensures in
     IfOk-weaker _ (AreFoundIn g p) (λ finds. finds ≡ [] → StandsForTree g sectors)
     (λ finds found none. stands-found g sectors image.sectors p finds c.requires.good c.in-Ok.ensures.logical is reads found none)
     c.found_in.ensures

@@ -4,7 +4,7 @@ use Rattle.std.specs.Prelude.{◌&&◌, not}
 use Rattle.std.specs.List.{range_with_len}
 use Rattle.ds_base.specs.Geometry.{items_of}
 use Rattle.ds_image.specs.Owns.{bit}
-use Rattle.ds_check.specs.Objects.{is_in_use}
+use Rattle.ds_check.specs.Marking.{is_in_use}
 use Rattle.ds_check.specs.declared.findings.Find.{Find}
 use Rattle.ds_check.specs.declared.findings.Find.TheVariants as finds
 use Rattle.ds_check.specs.Rows.{find_if, row}

@@ -1,5 +1,5 @@
 -- Those of one more number are noted.
-use Rattle.ds_check.specs.Objects.{bitmap_form}
+use Rattle.ds_check.specs.Metadata.{bitmap_form}
 use Rattle.ds_check.proofs.Rows.{row_step}
 use Rattle.ds_check.proofs.metadata.note_bitmaps.Goals as goal
 

@@ -1,6 +1,6 @@
 -- The findings of the numbers so far are noted.
 use Rattle.std.proofs.Common.{◌≡◌, ◌++◌}
-use Rattle.ds_check.specs.Objects.{bitmap_form}
+use Rattle.ds_check.specs.Metadata.{bitmap_form}
 use Rattle.ds_check.specs.Rows.{row}
 use Rattle.ds_check.proofs.metadata.note_bitmaps.Given as goal
 

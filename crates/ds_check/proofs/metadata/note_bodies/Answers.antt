@@ -1,5 +1,5 @@
 -- Those of one more number are noted.
-use Rattle.ds_check.specs.Objects.{body_form}
+use Rattle.ds_check.specs.Metadata.{body_form}
 use Rattle.ds_check.proofs.Rows.{row_step}
 use Rattle.ds_check.proofs.metadata.note_bodies.Goals as goal
 

@@ -1,7 +1,8 @@
 -- One more item is noted where it has two users.
 use Rattle.std.proofs.Common.{◌<◌, length, arith}
 use Rattle.ds_image.specs.Users.{users}
-use Rattle.ds_check.specs.Objects.{uses_of, twice}
+use Rattle.ds_check.specs.Uses.{uses_of}
+use Rattle.ds_check.specs.Sharing.{twice}
 use Rattle.ds_check.proofs.Rows.{row_step}
 use Rattle.ds_check.proofs.sharing.note_shared.Goals as goal
 

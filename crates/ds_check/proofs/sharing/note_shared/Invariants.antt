@@ -1,7 +1,8 @@
 -- The items so far that are listed twice are noted.
 use Rattle.std.proofs.Common.{◌≡◌, ◌++◌}
 use Rattle.ds_image.specs.Users.{users}
-use Rattle.ds_check.specs.Objects.{uses_of, twice}
+use Rattle.ds_check.specs.Uses.{uses_of}
+use Rattle.ds_check.specs.Sharing.{twice}
 use Rattle.ds_check.specs.Rows.{row}
 use Rattle.ds_check.proofs.sharing.note_shared.Given as goal
 

@@ -3,7 +3,7 @@ use Rattle.std.proofs.Common.{◌≡◌, length}
 use Rattle.std.specs.List.{flat_map, range_with_len}
 use Rattle.ds_image.specs.Parts.{part_at}
 use Rattle.ds_image.specs.Users.{uses_by, KnowsUsers}
-use Rattle.ds_check.specs.Objects.{listed_by}
+use Rattle.ds_check.specs.Uses.{listed_by}
 use Rattle.ds_check.proofs.uses.users_of.Given as goal
 
 abbrev pub invariant-loop-object : goal.invariant-loop-object

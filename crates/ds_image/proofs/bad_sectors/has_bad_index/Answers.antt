@@ -1,5 +1,5 @@
 -- The index is bad where none is found.
-use Rattle.ds_image.proofs.BadSectors.{bad_index}
+use Rattle.ds_image.proofs.Spelling.BadSectors.{bad_index}
 use Rattle.ds_image.proofs.bad_sectors.has_bad_index.Goals as goal
 
 pub returns-in-Committed : goal.returns-in-Committed

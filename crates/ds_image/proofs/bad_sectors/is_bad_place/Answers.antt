@@ -1,7 +1,7 @@
 -- A header is bad where none is decoded.
 use Rattle.std.proofs.Common.{slice_get}
 use Rattle.ds_image.specs.Readings.{SpellsHeader}
-use Rattle.ds_image.proofs.BadSectors.{no_value}
+use Rattle.ds_image.proofs.Spelling.BadSectors.{no_value}
 use Rattle.ds_image.proofs.bad_sectors.is_bad_place.Goals as goal
 
 pub returns-in-Header : goal.returns-in-Header

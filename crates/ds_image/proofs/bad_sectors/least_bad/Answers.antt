@@ -1,6 +1,6 @@
 -- No sector is bad where none in front of the file blocks is.
 use Rattle.std.proofs.Common.{arith}
-use Rattle.ds_image.proofs.BadSectors.{bad_within}
+use Rattle.ds_image.proofs.Spelling.BadSectors.{bad_within}
 use Rattle.ds_image.proofs.bad_sectors.least_bad.Goals as goal
 
 pub returns : goal.returns

@@ -6,8 +6,8 @@ use Rattle.std.specs.Ordering.{nat_cmp}
 use Rattle.std.proofs.lemmas.Option.{slice_get-get_or}
 use Rattle.ds_tree.specs.Nodes.{Entries, Dir, with_object}
 use Rattle.ds_image.specs.SoundObjects.{AreNamesApart}
-use Rattle.ds_image.proofs.BuiltTrees.{entries-more, dir-more}
-use Rattle.ds_image.proofs.EntryNames.{pairs}
+use Rattle.ds_image.proofs.FileTrees.BuiltTrees.{entries-more, dir-more}
+use Rattle.ds_image.proofs.FileTrees.EntryNames.{pairs}
 use Rattle.ds_image.proofs.building.put_dir.Goals as goal
 
 pub loop-entry-preserved : goal.loop-entry-preserved

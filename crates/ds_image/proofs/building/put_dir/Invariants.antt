@@ -2,7 +2,7 @@
 use Rattle.std.proofs.Common.{◌≡◌, take, Some}
 use Rattle.std.specs.FinMap as maps
 use Rattle.ds_tree.specs.Nodes.{Dir, with_object}
-use Rattle.ds_image.proofs.EntryNames.{pairs}
+use Rattle.ds_image.proofs.FileTrees.EntryNames.{pairs}
 use Rattle.ds_image.proofs.building.put_dir.Given as goal
 
 abbrev pub invariant-loop-entry : goal.invariant-loop-entry

@@ -11,10 +11,10 @@ use Rattle.ds_tree.specs.WellFormed.{IsTree}
 use Rattle.ds_image.specs.Looks.{Look}
 use Rattle.ds_image.specs.Objects.{is_used, object_of, tree_of}
 use Rattle.ds_image.specs.Parts.{Parts, part_at}
-use Rattle.ds_image.specs.Readings.{Reads}
-use Rattle.ds_image.proofs.BuiltTrees.{object-next, objects-more, objects-all, fresh-free, built}
-use Rattle.ds_image.proofs.RootedTrees.{root-from_tree, root-used}
-use Rattle.ds_image.proofs.Sizes.{body_is}
+use Rattle.ds_image.specs.Readings.{ReadsParts}
+use Rattle.ds_image.proofs.FileTrees.BuiltTrees.{object-next, objects-more, objects-all, fresh-free, built}
+use Rattle.ds_image.proofs.FileTrees.RootedTrees.{root-from_tree, root-used}
+use Rattle.ds_image.proofs.Spelling.Sizes.{body_is}
 use Rattle.ds_image.proofs.building.tree_of.Goals as goal
 
 within : (xs ys : List (Option Body)) (n : ℕ) → xs ≡ ys → n < length xs → n < length ys
@@ -53,7 +53,7 @@ loop-object-preserved _ c =
     }
 
 -- the objects of all descriptors make the tree
-all-put : (g : Geom) (look : Look) (p : Parts) (bodies : List (Option Body)) (n : ℕ) (t : FileTree) → IsGeom g → Reads g look p
+all-put : (g : Geom) (look : Look) (p : Parts) (bodies : List (Option Body)) (n : ℕ) (t : FileTree) → IsGeom g → ReadsParts g look p
     → bodies ≡ p.bodies → length bodies ≤ n
     → t.objects ≡ map (object_of p) (take n p.bodies) ++ drop n (fresh_tree g).objects → t ≡ tree_of p
 all-put g look p bodies n t is reads same past so_far =

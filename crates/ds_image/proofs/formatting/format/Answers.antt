@@ -1,8 +1,8 @@
 -- All sectors were made, and so the volume is the formatted one.
 use Rattle.std.proofs.Common.{◌≡◌, arith}
 use Rattle.ds_layout.specs.Places.{total_of}
-use Rattle.ds_image.proofs.FormattedUpTo.{all_formatted}
-use Rattle.ds_image.proofs.FreshVolume.{front_is_logical, fresh_stands}
+use Rattle.ds_image.proofs.NewVolumes.FormattedUpTo.{all_formatted}
+use Rattle.ds_image.proofs.NewVolumes.FreshVolume.{front_is_logical, fresh_stands}
 use Rattle.ds_image.proofs.formatting.format.Goals as goal
 
 pub returns-clause-formatted : goal.returns-clause-formatted

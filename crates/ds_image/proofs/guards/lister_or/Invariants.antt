@@ -3,10 +3,10 @@ use Rattle.std.proofs.Common.{◌≡◌, ℕ, ◌<◌, ◌==◌, false, slice_ge
 use Rattle.std.specs.List.{list_any}
 use Rattle.ds_image.specs.Listers.{listed_of}
 use Rattle.ds_image.specs.Parts.{Parts, part_at}
-use Rattle.ds_image.specs.Readings.{Reads}
+use Rattle.ds_image.specs.Readings.{ReadsParts}
 use Rattle.ds_image.proofs.guards.lister_or.Given as goal
 
 abbrev pub invariant-loop-object : goal.invariant-loop-object
 invariant-loop-object _ l =
-    (p : Parts) → Reads l.image.geom (slice_get l.image.sectors) p
+    (p : Parts) → ReadsParts l.image.geom (slice_get l.image.sectors) p
     → (i : ℕ) → i < l.object → list_any (λ x. x == l.n) (listed_of l.kind (part_at p.bodies i)) ≡ false

@@ -4,7 +4,7 @@ use Rattle.ds_base.specs.declared.names.NodeKind.TheVariants as kinds
 use Rattle.std.specs.List.{flat_map}
 use Rattle.ds_image.specs.Objects.{addresses_in, ptrs_of}
 use Rattle.ds_image.specs.Parts.{part_at}
-use Rattle.ds_image.proofs.ListedItems.{blocks-pointed}
+use Rattle.ds_image.proofs.Ownership.ListedItems.{blocks-pointed}
 use Rattle.ds_image.proofs.listings.blocks_of.Goals as goal
 
 pub returns : goal.returns

@@ -2,7 +2,7 @@
 use Rattle.std.proofs.Common.{◌++◌, take, ap, sym, ◌∙◌}
 use Rattle.std.specs.List.{filter_map}
 use Rattle.ds_image.specs.Objects.{rooms_in, used_rooms}
-use Rattle.ds_image.proofs.ListedItems.{used_rooms-more}
+use Rattle.ds_image.proofs.Ownership.ListedItems.{used_rooms-more}
 use Rattle.ds_image.proofs.listings.entries_in.Goals as goal
 
 pub loop-number-preserved : goal.loop-number-preserved

@@ -2,7 +2,7 @@
 use Rattle.std.specs.BTreeMap.{get}
 use Rattle.std.specs.Ordering.{nat_cmp}
 use Rattle.ds_image.specs.Replaced.{image_of}
-use Rattle.ds_image.proofs.Laying.{lays_slot}
+use Rattle.ds_image.proofs.Journaling.Laying.{lays_slot}
 use Rattle.ds_image.proofs.logical.lay_all.Goals as goal
 
 pub loop-number-preserved : goal.loop-number-preserved

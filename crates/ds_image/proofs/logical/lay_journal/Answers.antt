@@ -3,7 +3,7 @@ use Rattle.std.proofs.Common.{Some, get_or, rules}
 use Rattle.std.specs.BTreeMap.{get, Updates}
 use Rattle.std.specs.Ordering.{nat_cmp}
 use Rattle.ds_image.specs.Replaced.{image_of}
-use Rattle.ds_image.proofs.Laying.{lays_put}
+use Rattle.ds_image.proofs.Journaling.Laying.{lays_put}
 use Rattle.ds_image.proofs.logical.lay_journal.Goals as goal
 
 pub loop-i-preserved : goal.loop-i-preserved

@@ -4,7 +4,7 @@ use Rattle.std.specs.Ordering.{nat_cmp}
 use Rattle.std.proofs.lemmas.Result.{on_ok_weaker}
 use Rattle.ds_image.specs.Pending.{AreJournalled, ArePending}
 use Rattle.ds_image.specs.Replaced.{image_of}
-use Rattle.ds_image.proofs.Laying.{lays_as, committed_pending}
+use Rattle.ds_image.proofs.Journaling.Laying.{lays_as, committed_pending}
 use Rattle.ds_image.proofs.logical.lay_slot.Goals as goal
 
 pub returns-in-Some : goal.returns-in-Some

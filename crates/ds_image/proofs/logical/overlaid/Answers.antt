@@ -6,7 +6,7 @@ use Rattle.ds_layout.specs.Places.{blocks_at}
 use Rattle.ds_image.specs.Laying.{Lays, ArePendingBelow}
 use Rattle.ds_image.specs.Looks.{AreBlocks}
 use Rattle.ds_image.specs.Replaced.{image_of}
-use Rattle.ds_image.proofs.Laying.{first_block, logical_laid, image_pending}
+use Rattle.ds_image.proofs.Journaling.Laying.{first_block, logical_laid, image_pending}
 use Rattle.ds_image.proofs.logical.overlaid.Goals as goal
 
 pub sector_of-end-requires-clause-inside : goal.sector_of-end-requires-clause-inside

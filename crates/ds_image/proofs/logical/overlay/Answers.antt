@@ -4,7 +4,7 @@ use Rattle.std.proofs.Common.{◌≡◌, List}
 use Rattle.ds_base.specs.declared.sectors.Sector.{Sector}
 use Rattle.ds_image.specs.ImageValues.{ImageValue}
 use Rattle.ds_image.specs.Logical.{IsLogical}
-use Rattle.ds_image.proofs.OneLogical.{logical_once}
+use Rattle.ds_image.proofs.Journaling.OneLogical.{logical_once}
 use Rattle.ds_image.proofs.logical.overlay.Goals as goal
 
 pub returns-clause-only : goal.returns-clause-only

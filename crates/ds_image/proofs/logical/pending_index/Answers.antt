@@ -1,5 +1,5 @@
 -- The index that is found is that of the committed journal.
-use Rattle.ds_image.proofs.Laying.{committed_found}
+use Rattle.ds_image.proofs.Journaling.Laying.{committed_found}
 use Rattle.ds_image.proofs.logical.pending_index.Goals as goal
 
 pub returns-in-Committed : goal.returns-in-Committed

@@ -1,5 +1,5 @@
 -- One more sector is read.
-use Rattle.ds_image.proofs.Laying.{blocks_more}
+use Rattle.ds_image.proofs.Journaling.Laying.{blocks_more}
 use Rattle.ds_image.proofs.logical.read_front.Goals as goal
 
 pub loop-at-preserved : goal.loop-at-preserved

@@ -6,8 +6,8 @@ use Rattle.std.proofs.lemmas.List.{length-replicate}
 use Rattle.ds_image.specs.Listings.{listed_by}
 use Rattle.ds_image.specs.Owned.{CanMark}
 use Rattle.ds_image.specs.Owns.{Owns}
-use Rattle.ds_image.proofs.OwnedLists.{owned-more, owned-all, owned-not}
-use Rattle.ds_image.proofs.Owning.{owns-none}
+use Rattle.ds_image.proofs.Ownership.OwnedLists.{owned-more, owned-all, owned-not}
+use Rattle.ds_image.proofs.Ownership.Owning.{owns-none}
 use Rattle.ds_image.proofs.owners.owns.Goals as goal
 
 pub loop-body-init : goal.loop-body-init

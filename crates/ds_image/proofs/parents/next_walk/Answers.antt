@@ -1,6 +1,6 @@
 use Rattle.std.proofs.Common.{length, sym}
 use Rattle.ds_image.specs.ParentWalks.{walk_to}
-use Rattle.ds_image.proofs.WalkingParents.{settled-passes, some-tested}
+use Rattle.ds_image.proofs.Parenthood.WalkingParents.{settled-passes, some-tested}
 use Rattle.ds_image.proofs.parents.next_walk.Goals as goal
 
 pub returns-then-is_some : goal.returns-then-is_some

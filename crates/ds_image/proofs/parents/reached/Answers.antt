@@ -1,7 +1,7 @@
 use Rattle.std.proofs.Common.{◌≡◌, ap, ◌∙◌, length}
 use Rattle.std.proofs.lemmas.List.{take_at}
 use Rattle.ds_image.specs.ParentWalks.{walk_to, led}
-use Rattle.ds_image.proofs.WalkingParents.{reached-all, IfOk-both}
+use Rattle.ds_image.proofs.Parenthood.WalkingParents.{reached-all, IfOk-both}
 use Rattle.ds_image.proofs.parents.reached.Goals as goal
 
 pub returns : goal.returns

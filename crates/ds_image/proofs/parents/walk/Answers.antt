@@ -1,7 +1,7 @@
 use Rattle.std.proofs.Common.{◌++◌, ◌∷◌, [], refl, sym, ap, subst}
 use Rattle.std.specs.Prelude.{not}
 use Rattle.ds_image.specs.ParentWalks.{walk_to, AreSettled}
-use Rattle.ds_image.proofs.WalkingParents.{walk-begins, walk-moves, walk-stops, walk-meets, none-tested, some-tested}
+use Rattle.ds_image.proofs.Parenthood.WalkingParents.{walk-begins, walk-moves, walk-stops, walk-meets, none-tested, some-tested}
 use Rattle.ds_image.proofs.parents.walk.Goals as goal
 
 pub loop-seen-init : goal.loop-seen-init

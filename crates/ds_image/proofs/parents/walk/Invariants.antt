@@ -1,5 +1,5 @@
 use Rattle.std.proofs.Common.{◌≡◌, length}
-use Rattle.ds_image.proofs.WalkingParents.{IsWalk, unseen_count}
+use Rattle.ds_image.proofs.Parenthood.WalkingParents.{IsWalk, unseen_count}
 use Rattle.ds_image.proofs.parents.walk.Given as goal
 
 abbrev pub invariant-loop-seen : goal.invariant-loop-seen

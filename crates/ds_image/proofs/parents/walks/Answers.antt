@@ -1,7 +1,7 @@
 use Rattle.std.proofs.Common.{◌≡◌, Some, set, length, true, [], ◌∷◌, ◌++◌, sym, ap, ◌∙◌, subst}
 use Rattle.std.proofs.lemmas.Bool.{cond-true}
 use Rattle.ds_image.specs.ParentWalks.{AreSettled}
-use Rattle.ds_image.proofs.WalkingParents.{settled-first}
+use Rattle.ds_image.proofs.Parenthood.WalkingParents.{settled-first}
 use Rattle.ds_image.proofs.parents.walks.Goals as goal
 
 pub loop-start-init : goal.loop-start-init

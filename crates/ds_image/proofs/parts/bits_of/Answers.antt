@@ -4,7 +4,7 @@ use Rattle.ds_base.specs.declared.geometry.Geom.{Geom}
 use Rattle.ds_bitmap.specs.Bits.{IsBits, bits_bytes}
 use Rattle.ds_layout.specs.Places.{place_sector}
 use Rattle.ds_layout.specs.declared.places.Place.TheVariants as places
-use Rattle.ds_image.proofs.Decoded.{spelled_at}
+use Rattle.ds_image.proofs.Spelling.Decoded.{spelled_at}
 use Rattle.ds_image.proofs.parts.bits_of.Goals as goal
 
 pub returns : goal.returns

@@ -3,7 +3,7 @@ use Rattle.std.proofs.Common.{◌≡◌, [], ◌∷◌, ◌++◌, slice_get, ap,
 use Rattle.ds_base.specs.Geometry.{items_of}
 use Rattle.ds_base.specs.declared.geometry.Kind.TheVariants as kinds
 use Rattle.ds_image.specs.Readings.{SpellsBody}
-use Rattle.ds_image.proofs.PartsRead.{reading-more, reading-all}
+use Rattle.ds_image.proofs.Spelling.PartsRead.{reading-more, reading-all}
 use Rattle.ds_image.proofs.parts.bodies_of.Goals as goal
 
 pub loop-object-preserved : goal.loop-object-preserved

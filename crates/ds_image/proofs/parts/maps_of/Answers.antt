@@ -2,7 +2,7 @@
 use Rattle.std.proofs.Common.{◌≡◌, [], ◌∷◌, ◌++◌, slice_get, ap, rules, arith}
 use Rattle.ds_base.specs.Geometry.{clusters_of}
 use Rattle.ds_image.specs.Readings.{SpellsBits}
-use Rattle.ds_image.proofs.PartsRead.{reading-more, reading-all}
+use Rattle.ds_image.proofs.Spelling.PartsRead.{reading-more, reading-all}
 use Rattle.ds_image.proofs.parts.maps_of.Goals as goal
 
 pub loop-cluster-preserved : goal.loop-cluster-preserved

@@ -1,7 +1,7 @@
 use Rattle.std.proofs.Common.{slice_get}
 use Rattle.ds_layout.specs.Places.{place_sector}
 use Rattle.ds_layout.specs.declared.places.Place.TheVariants as places
-use Rattle.ds_image.proofs.PartsRead.{ptr_read}
+use Rattle.ds_image.proofs.Spelling.PartsRead.{ptr_read}
 use Rattle.ds_image.proofs.parts.ptr_of.Goals as goal
 
 pub returns : goal.returns

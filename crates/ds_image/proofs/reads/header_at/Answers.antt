@@ -2,7 +2,7 @@
 use Rattle.std.proofs.Common.{◌≡◌, slice_get}
 use Rattle.ds_layout.specs.Places.{header_sector}
 use Rattle.ds_marks.specs.Header.{IsHeader, header_bytes}
-use Rattle.ds_image.proofs.Decoded.{numbered_at}
+use Rattle.ds_image.proofs.Spelling.Decoded.{numbered_at}
 use Rattle.ds_image.proofs.reads.header_at.Goals as goal
 
 pub returns : goal.returns

@@ -11,8 +11,8 @@ use Rattle.ds_image.specs.Owns.{Owns}
 use Rattle.ds_image.specs.Parents.{AreReached}
 use Rattle.ds_image.specs.Parts.{part_at}
 use Rattle.ds_image.specs.Rooted.{named_bits}
-use Rattle.ds_image.proofs.RootedTrees.{named-count}
-use Rattle.ds_image.proofs.ReachedObjects.{rooted-where_reached}
+use Rattle.ds_image.proofs.FileTrees.RootedTrees.{named-count}
+use Rattle.ds_image.proofs.Parenthood.ReachedObjects.{rooted-where_reached}
 use Rattle.ds_image.proofs.rooted.is_rooted.Goals as goal
 
 pub owns-requires : goal.owns-requires

@@ -9,8 +9,8 @@ use Rattle.ds_image.specs.ListParents.{SetsParents, AreParentsOf}
 use Rattle.ds_image.specs.Owns.{list_of}
 use Rattle.ds_image.specs.Parts.{part_at}
 use Rattle.ds_image.specs.Rooted.{named_bits}
-use Rattle.ds_image.proofs.ListParents.{parents-more, written-all}
-use Rattle.ds_image.proofs.SoundParts.{list-is}
+use Rattle.ds_image.proofs.Parenthood.ListParents.{parents-more, written-all}
+use Rattle.ds_image.proofs.Spelling.SoundParts.{list-is}
 use Rattle.ds_image.proofs.rooted.parents_of.Goals as goal
 
 pub overflow_cast-dir-end : goal.overflow_cast-dir-end

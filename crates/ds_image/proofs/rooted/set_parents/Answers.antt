@@ -1,7 +1,7 @@
 -- One more object has the parent, where it is there.
 use Rattle.std.proofs.Common.{◌+◌, List, Option, ℕ, take, get_or, refl, sym, subst}
 use Rattle.ds_image.specs.ListParents.{SetsParents}
-use Rattle.ds_image.proofs.ListParents.{sets-more, sets-past}
+use Rattle.ds_image.proofs.Parenthood.ListParents.{sets-more, sets-past}
 use Rattle.ds_image.proofs.rooted.set_parents.Goals as goal
 use Rattle.ds_image.proofs.rooted.set_parents.Goals.{then-at-parents, else-at-parents}
 

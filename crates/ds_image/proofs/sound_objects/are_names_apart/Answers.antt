@@ -8,7 +8,7 @@ use Rattle.std.specs.List.{list_any}
 use Rattle.std.specs.Ordering.{nat_cmp, is_eq}
 use Rattle.std.proofs.lemmas.Bool.{false≢true}
 use Rattle.ds_dir.specs.declared.sub_block.Entry.{Entry}
-use Rattle.ds_image.proofs.NamesApart.{apart-none, apart-more, apart-not, known-more}
+use Rattle.ds_image.proofs.FileTrees.NamesApart.{apart-none, apart-more, apart-not, known-more}
 use Rattle.ds_image.proofs.sound_objects.are_names_apart.Goals as goal
 
 not_false : (b : Bool) → not b ≡ false → b ≡ true

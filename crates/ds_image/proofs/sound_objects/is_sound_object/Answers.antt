@@ -7,7 +7,7 @@ use Rattle.ds_image.specs.Objects.{addresses_in, subs_of, ptrs_of, tail_of, used
 use Rattle.ds_image.specs.Parts.{part_at}
 use Rattle.ds_image.specs.Sound.{IsNamedRight, AreZero}
 use Rattle.ds_image.specs.SoundObjects.{AreNamesApart, count_in, IsSoundObject}
-use Rattle.ds_image.proofs.ObjectSound.{tail-is}
+use Rattle.ds_image.proofs.Spelling.ObjectSound.{tail-is}
 use Rattle.ds_image.proofs.sound_objects.is_sound_object.Goals as goal
 
 pub returns-then-not-is_tail_zero : goal.returns-then-not-is_tail_zero

@@ -1,7 +1,7 @@
 use Rattle.std.proofs.Common.{◌≡◌, length, min, ap, subst, sym, ◌∙◌}
 use Rattle.ds_image.specs.Sound.{AreZero}
 use Rattle.ds_image.specs.SoundObjects.{count_in}
-use Rattle.ds_image.proofs.ObjectSound.{rest-from_min}
+use Rattle.ds_image.proofs.Spelling.ObjectSound.{rest-from_min}
 use Rattle.ds_image.proofs.sound_objects.is_tail_zero.Goals as goal
 use Rattle.ds_image.proofs.sound_objects.is_tail_zero.Goals.{in-Some, in-None}
 

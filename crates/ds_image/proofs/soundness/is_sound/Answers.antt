@@ -5,7 +5,7 @@ use Rattle.std.proofs.lemmas.Result.{IfOk-weaker}
 use Rattle.ds_image.specs.Parts.{AllSpelled}
 use Rattle.ds_image.specs.Sound.{IsSound}
 use Rattle.ds_image.specs.SoundObjects.{IsMarked}
-use Rattle.ds_image.proofs.SoundParts.{short_rows, sound-from, objects-of, marked-of}
+use Rattle.ds_image.proofs.Spelling.SoundParts.{short_rows, sound-from, objects-of, marked-of}
 use Rattle.ds_image.proofs.soundness.is_sound.Goals as goal
 
 pub returns-then-not-branch : goal.returns-then-not-branch

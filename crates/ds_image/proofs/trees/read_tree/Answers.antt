@@ -5,7 +5,7 @@ use Rattle.ds_tree.specs.Nodes.{FileTree}
 use Rattle.ds_tree.specs.Trees.{TreeValue}
 use Rattle.ds_image.specs.ReadTrees.{StandsForNone}
 use Rattle.ds_image.specs.Sound.{StandsFor}
-use Rattle.ds_image.proofs.Standing.{stands_once}
+use Rattle.ds_image.proofs.FileTrees.Standing.{stands_once}
 use Rattle.ds_image.proofs.trees.read_tree.Goals as goal
 
 pub returns-clause-only : goal.returns-clause-only

@@ -4,8 +4,8 @@ use Rattle.std.proofs.lemmas.Bool.{false≢true}
 use Rattle.ds_base.specs.declared.geometry.Geom.{Geom}
 use Rattle.ds_tree.specs.WellFormed.{IsTree}
 use Rattle.ds_image.specs.Objects.{tree_of}
-use Rattle.ds_image.proofs.ReadTrees.{none-unsound, none-unrooted}
-use Rattle.ds_image.proofs.TreesThatStand.{tree-from_rooted}
+use Rattle.ds_image.proofs.FileTrees.ReadTrees.{none-unsound, none-unrooted}
+use Rattle.ds_image.proofs.FileTrees.TreesThatStand.{tree-from_rooted}
 use Rattle.ds_image.proofs.trees.tree_in.Goals as goal
 
 pub returns-then-not-branch-clause-tree : goal.returns-then-not-branch-clause-tree

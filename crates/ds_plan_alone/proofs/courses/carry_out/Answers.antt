@@ -2,7 +2,7 @@
 use Rattle.std.proofs.Common.{◌≡◌, [], subst, arith, rules}
 use Rattle.ds_layout.specs.Metadata.{IsMetadata}
 use Rattle.ds_plan_alone.specs.Courses.{Begun, IsCourse}
-use Rattle.ds_plan_alone.proofs.Alone.{planned, lock_step, read_step, ends_right, most, asks_of, is_end}
+use Rattle.ds_plan_alone.proofs.Alone.{guarded, planned, lock_step, read_step, ends_right, most, asks_of, is_end}
 use Rattle.ds_plan_alone.proofs.courses.carry_out.Goals as goal
 
 pub asks-init : goal.asks-init
@@ -73,6 +73,7 @@ returns-in_default g c =
       seen = c.asks.seen;
       has_asked = is.has_asked;
       answered = asks_of _ _ _ _ is.planned _ _ _ is.has_asked c.ask.ensures;
+      guarded = guarded _ _ _ _ is.planned _ _ is.has_asked;
       ended = is_end c.ask.result c.in_default.not-Lock c.in_default.not-Read;
     } in
     record {

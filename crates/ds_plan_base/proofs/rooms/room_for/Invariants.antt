@@ -2,7 +2,7 @@
 use Rattle.std.proofs.Common.{◌≡◌, ◌≤◌, ◌*◌, drop, Some}
 use Rattle.ds_image.specs.Objects.{subs_of}
 use Rattle.ds_image.specs.Parts.{Parts}
-use Rattle.ds_image.specs.Readings.{Reads}
+use Rattle.ds_image.specs.Readings.{ReadsParts}
 use Rattle.ds_image.specs.SeenValues.{look_of}
 use Rattle.ds_plan_base.specs.Rooms.{room_for, room_for_from}
 use Rattle.ds_plan_base.proofs.rooms.room_for.Given as goal
@@ -10,6 +10,6 @@ use Rattle.ds_plan_base.proofs.rooms.room_for.Given as goal
 abbrev pub invariant-loop-number : goal.invariant-loop-number
 invariant-loop-number l = record {
   most : l.count ≤ 4 * l.number-index;
-  known : (p : Parts) → Reads l.geom (look_of l.seen) p
+  known : (p : Parts) → ReadsParts l.geom (look_of l.seen) p
       → room_for l.geom l.seen p l.dir l.name ≡ room_for_from l.geom l.seen p l.dir l.name l.count l.free (drop l.number-index (subs_of (Some l.dir)));
 }

@@ -3,7 +3,7 @@ use Rattle.std.proofs.Common.{◌≡◌, ◌*◌, drop, length, Some}
 use Rattle.std.specs.Prelude.{Ok}
 use Rattle.ds_image.specs.Objects.{ptrs_of}
 use Rattle.ds_image.specs.Parts.{Parts}
-use Rattle.ds_image.specs.Readings.{Reads}
+use Rattle.ds_image.specs.Readings.{ReadsParts}
 use Rattle.ds_image.specs.SeenValues.{look_of}
 use Rattle.ds_plan_base.specs.Steps.{after}
 use Rattle.ds_plan_remove.specs.Blocks.{pointed_in, pointed_from}
@@ -12,7 +12,7 @@ use Rattle.ds_plan_remove.proofs.blocks.pointed_in.Given as goal
 abbrev pub invariant-loop-number : goal.invariant-loop-number
 invariant-loop-number l = record {
   many : length l.found.items ≡ 128 * l.number-index;
-  known : (p : Parts) → Reads l.geom (look_of l.seen) p
+  known : (p : Parts) → ReadsParts l.geom (look_of l.seen) p
       → pointed_in l.geom l.seen p l.file
       ≡ after (pointed_from l.geom l.seen p l.file l.found.items (drop l.number-index (ptrs_of (Some l.file)))) (λ found. Ok (record { items = found }));
 }

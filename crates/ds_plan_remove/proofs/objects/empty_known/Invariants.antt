@@ -2,12 +2,12 @@
 use Rattle.std.proofs.Common.{◌≡◌, drop, Some}
 use Rattle.ds_image.specs.Objects.{subs_of}
 use Rattle.ds_image.specs.Parts.{Parts}
-use Rattle.ds_image.specs.Readings.{Reads}
+use Rattle.ds_image.specs.Readings.{ReadsParts}
 use Rattle.ds_image.specs.SeenValues.{look_of}
 use Rattle.ds_plan_remove.specs.Answers.{empty_from}
 use Rattle.ds_plan_remove.proofs.objects.empty_known.Given as goal
 
 abbrev pub invariant-loop-number : goal.invariant-loop-number
 invariant-loop-number l =
-    (p : Parts) → Reads l.geom (look_of l.seen) p
+    (p : Parts) → ReadsParts l.geom (look_of l.seen) p
     → empty_from l.geom l.seen p l.dir (subs_of (Some l.dir)) ≡ empty_from l.geom l.seen p l.dir (drop l.number-index (subs_of (Some l.dir)))

@@ -5,7 +5,7 @@ use Rattle.ds_base.specs.Geometry.{items_of}
 use Rattle.ds_base.specs.declared.geometry.Kind.TheVariants.{Sb}
 use Rattle.ds_image.specs.Objects.{subs_of}
 use Rattle.ds_image.specs.Parts.{Parts}
-use Rattle.ds_image.specs.Readings.{Reads}
+use Rattle.ds_image.specs.Readings.{ReadsParts}
 use Rattle.ds_image.specs.SeenValues.{look_of}
 use Rattle.ds_plan_base.specs.Objects.{IsFoundRoom}
 use Rattle.ds_plan_base.specs.declared.entries.Found.{Found}
@@ -14,7 +14,7 @@ use Rattle.ds_plan_rename.proofs.entries.entry_kept.Given as goal
 
 abbrev pub invariant-loop-number : goal.invariant-loop-number
 invariant-loop-number l = record {
-  known : (p : Parts) → Reads l.geom (look_of l.seen) p
+  known : (p : Parts) → ReadsParts l.geom (look_of l.seen) p
       → entry_kept l.geom l.seen p l.dir l.name l.fresh ≡ entry_kept_from l.geom l.seen p l.dir l.name l.fresh l.from l.taken (drop l.number-index (subs_of (Some l.dir)));
   apart : (l.taken && is_some l.from) ≡ false;
   is_room : IfSome l.from IsFoundRoom;

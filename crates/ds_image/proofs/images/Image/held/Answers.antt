@@ -2,7 +2,7 @@
 use Rattle.std.proofs.Common.{◌≡◌, Some, None, rules, arith}
 use Rattle.std.specs.BTreeMap.{get}
 use Rattle.std.specs.Ordering.{nat_cmp}
-use Rattle.ds_image.proofs.Replacing.{held-pending, held-stored}
+use Rattle.ds_image.proofs.Journaling.Replacing.{held-pending, held-stored}
 use Rattle.ds_image.proofs.images.Image.held.Goals as goal
 
 pub returns-in-Some : goal.returns-in-Some

@@ -1,5 +1,5 @@
 use Rattle.std.proofs.Common.{◌∙◌, sym, ap, min, length, take, drop}
-use Rattle.ds_image.proofs.MarkedLists.{same-marks, rest-from}
+use Rattle.ds_image.proofs.Ownership.MarkedLists.{same-marks, rest-from}
 use Rattle.ds_image.proofs.marks.Marks.are_from.Goals as goal
 
 pub returns-then-bits-rest : goal.returns-then-bits-rest

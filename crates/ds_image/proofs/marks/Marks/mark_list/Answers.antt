@@ -1,7 +1,7 @@
 use Rattle.std.proofs.Common.{refl, sym, ◌∙◌, subst}
 use Rattle.std.proofs.lemmas.Bool.{false≢true, cond-true, cond-false}
 use Rattle.ds_image.specs.Owned.{StopsMarking}
-use Rattle.ds_image.proofs.MarkedLists.{MarkedFront, front-more, front-stops, front-all, stops-cannot, marked-owns, unmarked-owns}
+use Rattle.ds_image.proofs.Ownership.MarkedLists.{MarkedFront, front-more, front-stops, front-all, stops-cannot, marked-owns, unmarked-owns}
 use Rattle.ds_image.proofs.marks.Marks.mark_list.Goals as goal
 
 stops : (c : goal.Then-not-mark) → StopsMarking c.args.self.now c.args.items.now c.loop-item.item-index c.mark.new.self

@@ -1,4 +1,4 @@
-use Rattle.ds_image.proofs.MarkedLists.{MarkedFront}
+use Rattle.ds_image.proofs.Ownership.MarkedLists.{MarkedFront}
 use Rattle.ds_image.proofs.marks.Marks.mark_list.Given as goal
 
 -- the items so far are marked

@@ -2,7 +2,7 @@ use Rattle.std.proofs.Common.{◌≡◌, set, sym, ap, ◌∙◌, subst, ◌++�
 use Rattle.std.specs.Prelude.{slice_index}
 use Rattle.ds_base.specs.Outside.{risen}
 use Rattle.ds_image.specs.NameCounts.{CountsNames}
-use Rattle.ds_image.proofs.CountedNames.{count-read, counts-more}
+use Rattle.ds_image.proofs.FileTrees.CountedNames.{count-read, counts-more}
 use Rattle.ds_image.proofs.name_counts.NameCounts.note.Goals as goal
 
 noted : (c : goal.After-self-1) → set c.self.inside.counts.items c.args.object c.saturating_add.result

@@ -1,5 +1,5 @@
 -- What was decoded and what is still spelled are the parts of the image.
-use Rattle.ds_image.proofs.PartsRead.{parts_read}
+use Rattle.ds_image.proofs.Spelling.PartsRead.{parts_read}
 use Rattle.ds_image.proofs.parts.PartsInMemory.read.Goals as goal
 
 pub returns : goal.returns

@@ -5,8 +5,8 @@ use Rattle.ds_base.specs.declared.geometry.Geom.{Geom}
 use Rattle.ds_base.specs.declared.geometry.Kind.TheVariants as kinds
 use Rattle.ds_image.specs.Parts.{Parts, part_at}
 use Rattle.ds_image.specs.Readings.{SpellsSub}
-use Rattle.ds_image.proofs.PartsRead.{part_read, part_past}
-use Rattle.ds_image.proofs.SpellingParts.{subs-read}
+use Rattle.ds_image.proofs.Spelling.PartsRead.{part_read, part_past}
+use Rattle.ds_image.proofs.Spelling.SpellingParts.{subs-read}
 use Rattle.ds_image.proofs.parts.PartsInMemory.sub.Goals as goal
 
 pub returns-then-number-items_of_kind : goal.returns-then-number-items_of_kind

@@ -2,7 +2,7 @@ use Rattle.std.proofs.Common.{map, ap, ◌∙◌, List, ℕ}
 use Rattle.std.proofs.lemmas.List.{take_all}
 use Rattle.std.specs.Prelude.{slice_get}
 use Rattle.ds_image.specs.KnownUsers.{known_users}
-use Rattle.ds_image.proofs.RowsOfUsers.{firsts-of-rows}
+use Rattle.ds_image.proofs.Ownership.RowsOfUsers.{firsts-of-rows}
 use Rattle.ds_image.proofs.users.Users.firsts.Goals as goal
 
 pub returns : goal.returns

@@ -1,7 +1,7 @@
 use Rattle.std.proofs.Common.{◌≡◌, ◌∙◌, ap, map, replicate, []}
 use Rattle.ds_image.specs.KnownUsers.{known_users}
 use Rattle.ds_image.specs.Users.{users_in}
-use Rattle.ds_image.proofs.RowsOfUsers.{unused-rows, nothing-used}
+use Rattle.ds_image.proofs.Ownership.RowsOfUsers.{unused-rows, nothing-used}
 use Rattle.ds_image.proofs.users.Users.new.Goals as goal
 
 unused : (c : goal.In-Ok) → map known_users c.in-Ok.rows.items ≡ replicate c.args.count []

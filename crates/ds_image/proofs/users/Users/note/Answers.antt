@@ -2,8 +2,8 @@ use Rattle.std.proofs.Common.{◌≡◌, ◌∷◌, [], ◌++◌, take, map, set
 use Rattle.std.proofs.lemmas.List.{map-set}
 use Rattle.ds_image.specs.Users.{users_in, KnowsUsers}
 use Rattle.ds_image.specs.KnownUsers.{known_users}
-use Rattle.ds_image.proofs.NotedUsers.{knows-more}
-use Rattle.ds_image.proofs.RowsOfUsers.{row-read}
+use Rattle.ds_image.proofs.Ownership.NotedUsers.{knows-more}
+use Rattle.ds_image.proofs.Ownership.RowsOfUsers.{row-read}
 use Rattle.ds_image.proofs.users.Users.note.Goals as goal
 
 noted : (c : goal.After-self-1) → map known_users (set c.self.inside.rows.items c.args.item c.with.result)

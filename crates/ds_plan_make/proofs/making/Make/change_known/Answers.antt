@@ -3,8 +3,8 @@ use Rattle.std.proofs.Common.{◌≡◌, Some, None, sym, ap, subst, ◌∙◌}
 use Rattle.std.specs.Prelude.{Result, Ok}
 use Rattle.ds_image.specs.Objects.{subs_of}
 use Rattle.ds_image.specs.SeenValues.{look_of}
-use Rattle.ds_image.specs.Readings.{Reads}
-use Rattle.ds_image.proofs.Readings.{parts_there}
+use Rattle.ds_image.specs.Readings.{ReadsParts}
+use Rattle.ds_image.proofs.Spelling.Readings.{parts_there}
 use Rattle.ds_plan_make.specs.Answers.{MakeValue, change_known}
 use Rattle.ds_plan_make.specs.declared.making.Making.{Making}
 use Rattle.ds_plan_make.proofs.Known.{grown-is}
@@ -39,7 +39,7 @@ redo_grown-requires-clause-dir c =
 pub returns-in_ok-sub-in-None-clause-answer : goal.returns-in_ok-sub-in-None-clause-answer
 returns-in_ok-sub-in-None-clause-answer c p reads =
     subst
-    (λ (own : MakeValue). Reads own.geom (look_of c.args.seen.now) p
+    (λ (own : MakeValue). ReadsParts own.geom (look_of c.args.seen.now) p
     → ◌≡◌ {A = Result Making Stop} (Ok (record { redo = c.redo_grown.result; key = c.in_ok-new.new.entry.key })) (change_known own.geom own.slot c.args.seen.now p own.dir own.name own.kind))
     c.self.view_is
     (λ reads.

@@ -1,7 +1,7 @@
 -- What is written can be spelled, and is what is known.
 use Rattle.std.proofs.Common.{◌≡◌, sym, ap, subst, ◌∙◌}
 use Rattle.std.specs.Prelude.{Result, Ok}
-use Rattle.ds_image.specs.Readings.{Reads}
+use Rattle.ds_image.specs.Readings.{ReadsParts}
 use Rattle.ds_image.specs.SeenValues.{look_of}
 use Rattle.ds_plan_base.specs.Redos.{body_pair, sub_pair}
 use Rattle.ds_plan_base.specs.declared.stops.Stop.{Stop}
@@ -13,7 +13,7 @@ use Rattle.ds_plan_remove.proofs.removing.Remove.change_known.Goals as goal
 pub returns-clause-answer : goal.returns-clause-answer
 returns-clause-answer c p reads =
     subst
-    (λ (own : RemoveValue). Reads own.geom (look_of c.args.seen.now) p
+    (λ (own : RemoveValue). ReadsParts own.geom (look_of c.args.seen.now) p
     → ◌≡◌ {A = Result Removing Stop} (Ok (record { redo = record { pairs = c.push-2.new.self }; key = c.in_ok-found.found.key })) (change_known own.geom c.args.seen.now p own.dir own.name own.kind))
     c.self.view_is
     (λ reads.

@@ -18,7 +18,7 @@ returns-then-is_full c =
     let all = entries_above (entries_of (node_at t c.args.dir)) (option_copied c.args.after) in
     let e : List ℕ × ℕ = (c.in-Some.name.now, c.in-Some.object.now) in
     let page : List (List ℕ × Key) = c.loop-name.page.items in
-    let pair : (let p : List ℕ × Key = (c.in_ok-name.name, c.key_of.result) in p) ≡ with_key t e = λ i. (c.in_ok-name.ensures i, c.key_of.ensures i) in
+    let pair : (let p : List ℕ × Key = (c.copy-name.result, c.key_of.result) in p) ≡ with_key t e = λ i. (c.copy-name.ensures.same i, c.key_of.ensures i) in
     let pushed : c.push.new.self.items ≡ page ++ with_key t e ∷ [] = c.push.ensures.items ∙ ap (λ p. page ++ p ∷ []) pair in
     let more = paged-more (with_key t) all 32 page c.loop-name.rest c.loop-name.invariant.split e c.next.new.self c.in-Some.ensures.steps in
     let split : map (with_key t) all ≡ c.push.new.self.items ++ map (with_key t) c.next.new.self =
@@ -32,7 +32,7 @@ loop-name-preserved c =
     let all = entries_above (entries_of (node_at t c.args.dir)) (option_copied c.args.after) in
     let e : List ℕ × ℕ = (c.in-Some.name.now, c.in-Some.object.now) in
     let page : List (List ℕ × Key) = c.loop-name.page.items in
-    let pair : (let p : List ℕ × Key = (c.in_ok-name.name, c.key_of.result) in p) ≡ with_key t e = λ i. (c.in_ok-name.ensures i, c.key_of.ensures i) in
+    let pair : (let p : List ℕ × Key = (c.copy-name.result, c.key_of.result) in p) ≡ with_key t e = λ i. (c.copy-name.ensures.same i, c.key_of.ensures i) in
     let pushed : c.push.new.self.items ≡ page ++ with_key t e ∷ [] = c.push.ensures.items ∙ ap (λ p. page ++ p ∷ []) pair in
     let more = paged-more (with_key t) all 32 page c.loop-name.rest c.loop-name.invariant.split e c.next.new.self c.in-Some.ensures.steps in
     record {

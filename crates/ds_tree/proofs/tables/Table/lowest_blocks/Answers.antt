@@ -6,7 +6,7 @@ use Rattle.ds_base.specs.Geometry.{items_of}
 use Rattle.ds_tree.specs.Nodes.{all_blocks}
 use Rattle.ds_tree.proofs.Blocks.{take-next, skip-next, enough, tested}
 use Rattle.ds_tree.proofs.tables.Table.lowest_blocks.Goals as goal
-use Rattle.ds_tree.proofs.tables.Table.lowest_blocks.Goals.{then-len-count+then-not-index+in_ok-map_err, else-len-count, else-len-count-via-then-len-count+else-not-index, else-len-count-via-else-len-count}
+use Rattle.ds_tree.proofs.tables.Table.lowest_blocks.Goals.{then-len-count+then-not-index+in_ok-push, else-len-count, else-len-count-via-then-len-count+else-not-index, else-len-count-via-else-len-count}
 
 pub loop-block-preserved : goal.loop-block-preserved
 loop-block-preserved c =
@@ -18,8 +18,8 @@ loop-block-preserved c =
     let within : block < items_of c.args.self.now.geom kinds.Fb = omega (arith, c.items-block-end.ensures.value, c.loop-block-test.true) in
     let inside : block < length used = omega (arith, c.in_ok-used.ensures.len, within) in
     elim c.if-len-count.branch [
-      | then-len-count+then-not-index+in_ok-map_err w ↦
-          let ok : is_ok w.push.result ≡ true = sym w.map_err.ensures.variant ∙ ap is_ok w.in_ok-map_err.was in
+      | then-len-count+then-not-index+in_ok-push w ↦
+          let ok : is_ok w.push.result ≡ true = ap is_ok w.in_ok-push.was in
           let is = tested used block w.index.result.now has inside w.index.ensures (c.in_ok-used.ensures.used block within) in
           ap (λ (v : Vec ℕ Global). v.items) w.free-is ∙ rw (w.push.ensures.items, ok) (take-next p c.args.count block free c.loop-block.invariant
           (omega (arith, c.loop-block.free.ok.0, c.len.ensures, w.if-len-count.true)) (ap not (sym is ∙ w.if-not-index.true)))

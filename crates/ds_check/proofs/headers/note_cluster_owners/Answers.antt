@@ -1,0 +1,13 @@
+-- Those of one more number are noted.
+use Rattle.ds_layout.specs.Places.{cluster_lock}
+use Rattle.ds_image.specs.Parts.{part_at}
+use Rattle.ds_check.specs.Controls.{owners_of}
+use Rattle.ds_check.specs.Headers.{cluster_owner, owner_finds}
+use Rattle.ds_check.proofs.Rows.{row_step, same_finds}
+use Rattle.ds_check.proofs.headers.note_cluster_owners.Goals as goal
+
+pub loop-number-preserved : goal.loop-number-preserved
+loop-number-preserved c =
+    row_step c.args.report.now c.loop-number.report c.note_owner.new.report (cluster_owner c.args.controls.now c.args.kind) c.loop-number.number c.loop-number.invariant
+    (same_finds (owner_finds c.args.controls.now.slots) c.cluster_lock.result (cluster_lock c.args.kind c.loop-number.number) c.cluster.result
+    (part_at (owners_of c.args.controls.now c.args.kind) c.loop-number.number) c.loop-number.report c.note_owner.new.report c.cluster_lock.ensures c.cluster.ensures c.in_ok-note_owner.ensures)

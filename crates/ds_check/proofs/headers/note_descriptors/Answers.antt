@@ -1,0 +1,12 @@
+-- Those of one more number are noted.
+use Rattle.std.proofs.Common.{refl}
+use Rattle.ds_image.specs.Parts.{part_at}
+use Rattle.ds_check.specs.Headers.{descriptor_form, header_form}
+use Rattle.ds_check.proofs.Rows.{row_step, same_finds}
+use Rattle.ds_check.proofs.headers.note_descriptors.Goals as goal
+
+pub loop-object-preserved : goal.loop-object-preserved
+loop-object-preserved c =
+    row_step c.args.report.now c.loop-object.report c.note_header.new.report (descriptor_form c.args.geom.now c.args.controls.now) c.loop-object.object c.loop-object.invariant
+    (same_finds (header_form c.args.geom.now) c.loop-object.object c.loop-object.object c.descriptor.result
+    (part_at c.args.controls.now.descriptors c.loop-object.object) c.loop-object.report c.note_header.new.report refl c.descriptor.ensures c.in_ok-note_header.ensures)

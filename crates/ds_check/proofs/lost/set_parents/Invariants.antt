@@ -1,9 +1,0 @@
--- The objects in the rooms so far have the parent.
-use Rattle.std.proofs.Common.{take}
-use Rattle.std.specs.List.{filter_map}
-use Rattle.ds_check.specs.Lost.{SetsParents}
-use Rattle.ds_check.specs.Objects.{named_in}
-use Rattle.ds_check.proofs.lost.set_parents.Given as goal
-
-abbrev pub invariant-loop-room : goal.invariant-loop-room
-invariant-loop-room l = SetsParents l.initial.parents (filter_map (named_in l.parts) (take l.room-index l.rooms)) l.dir l.parents

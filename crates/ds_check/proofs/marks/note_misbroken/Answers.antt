@@ -1,8 +1,0 @@
--- Those of one more number are noted.
-use Rattle.ds_check.specs.Marks.{slot_breaker}
-use Rattle.ds_check.proofs.Rows.{row_step}
-use Rattle.ds_check.proofs.marks.note_misbroken.Goals as goal
-
-pub loop-number-preserved : goal.loop-number-preserved
-loop-number-preserved c =
-    row_step c.args.report.now c.loop-number.report c.note_breaker.new.report (slot_breaker c.args.geom.now c.args.controls.now) c.loop-number.number c.loop-number.invariant c.in_ok-note_breaker.ensures

@@ -1,8 +1,0 @@
--- The findings of the objects so far are noted.
-use Rattle.std.proofs.Common.{◌≡◌, ◌++◌}
-use Rattle.ds_check.specs.Naming.{misnamed_at}
-use Rattle.ds_check.specs.Rows.{row}
-use Rattle.ds_check.proofs.naming.note_misnamed.Given as goal
-
-abbrev pub invariant-loop-object : goal.invariant-loop-object
-invariant-loop-object l = l.report ≡ l.initial.report ++ row l.object (misnamed_at l.geom l.parts)

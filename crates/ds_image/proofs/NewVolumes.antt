@@ -1,0 +1,5 @@
+-- Volumes as they are formatted.
+pub mod FormattedUpTo
+pub mod FreshLists
+pub mod FreshParts
+pub mod FreshVolume

@@ -1,0 +1,6 @@
+//! The planner of the calls that only read.
+#![tactic(auto)]
+
+mod reads;
+
+pub use reads::Reads;

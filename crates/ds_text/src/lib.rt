@@ -1,0 +1,6 @@
+//! Texts that grow at their end.
+#![tactic(auto)]
+
+mod texts;
+
+pub use texts::Text;
