@@ -10,6 +10,7 @@ pub mod KeptObjects
 pub mod KeptPending
 pub mod Known
 pub mod LaidPairs
+pub mod MarksByValue
 pub mod OneGuard
 pub mod Owners
 pub mod PickedPairs

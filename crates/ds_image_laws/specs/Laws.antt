@@ -1,5 +1,7 @@
 -- What is proved of images of stores. The functions of src/ have these laws as clauses.
 use Rattle.std.specs.Prelude.{◌≡◌, ◌≢◌, ℕ, ◌<◌, ◌≤◌, true, false, List, length, slice_get, slice_set, Option, Some}
+use Rattle.std.specs.Option.{option_and_then}
+use Rattle.ds_base.specs.Decoding.{IsDecoded}
 use Rattle.ds_base.specs.Geometry.{IsGeom}
 use Rattle.ds_base.specs.declared.geometry.Geom.{Geom}
 use Rattle.ds_base.specs.declared.names.Key.{Key}
@@ -8,6 +10,8 @@ use Rattle.ds_jrnl.specs.declared.redo.Redo.{Redo}
 use Rattle.ds_layout.specs.Metadata.{IsMetadata, front_of}
 use Rattle.ds_layout.specs.Places.{blocks_at, place_sector}
 use Rattle.ds_layout.specs.declared.places.Place.TheVariants as places
+use Rattle.ds_marks.specs.HeaderIn.{header_if_of, header_in}
+use Rattle.ds_marks.specs.SlotIn.{slot_in}
 use Rattle.ds_marks.specs.declared.slot.Slot.{Slot}
 use Rattle.ds_marks.specs.declared.slot.Journal.TheVariants.{Idle, Committed}
 use Rattle.ds_tree.specs.Nodes.{FileTree, fresh_tree, object_at}
@@ -16,11 +20,11 @@ use Rattle.ds_tree.specs.declared.calls.TreeReply.{TreeReply}
 use Rattle.ds_image.specs.Formatted.{IsFormatted}
 use Rattle.ds_image.specs.Guards.{IsGuard}
 use Rattle.ds_image.specs.Logical.{IsLogical, laid_over}
-use Rattle.ds_image.specs.Looks.{Look}
+use Rattle.ds_image.specs.Looks.{Look, AreBlocks}
 use Rattle.ds_image.specs.Parts.{Parts}
 use Rattle.ds_image.specs.Pending.{Pair, ArePending}
 use Rattle.ds_image.specs.Planning.{Answers, AllKeep}
-use Rattle.ds_image.specs.Readings.{ReadsParts}
+use Rattle.ds_image.specs.Readings.{ReadsParts, SpellsHeader, SpellsSlot}
 use Rattle.ds_image.specs.SeenValues.{SeenValue, HoldsLock, look_of}
 use Rattle.ds_image.specs.Sound.{StandsFor}
 use Rattle.ds_image.specs.declared.asks.Ask.{Ask}
@@ -32,6 +36,19 @@ use Rattle.ds_image_laws.specs.ImageSteps.{Commit, DoAll, ImageRun, ImageStep, I
 use Rattle.ds_image_laws.specs.Kept.{Knows, is_target}
 use Rattle.ds_image_laws.specs.Owners.{Names}
 use Rattle.ds_image_laws.specs.Shown.{AreInPlace, HoldsImage, SameMetadata}
+
+-- Slots and headers
+
+-- the slot that a sector spells is the one that its bytes give
+abbrev pub SlotsByValue : Type 0
+SlotsByValue = (g : Geom) (look : Look) (number : ℕ) → number < 256 → AreBlocks look
+    → IsDecoded (option_and_then (λ (s : Sector). slot_in number s.bytes) (look (place_sector g (places.Slot number)))) (SpellsSlot g look number)
+
+-- the header that a sector spells is the one that its bytes give, where it is that of the lock object
+abbrev pub HeadersByValue : Type 0
+HeadersByValue = (g : Geom) (look : Look) (object : ℕ) → AreBlocks look
+    → IsDecoded (option_and_then (λ (s : Sector). header_if_of object (header_in s.bytes)) (look (place_sector g (places.Header object))))
+    (SpellsHeader g look object)
 
 -- Any lists of sectors
 

@@ -1,4 +1,4 @@
-//! What an event does to the logical image of a store, as laws: definitions, lemmas, and three functions that do nothing and
+//! What an event does to the logical image of a store, as laws: definitions, lemmas, and four functions that do nothing and
 //! whose contracts are the main laws.
 //!
 //! The image of a store shows the metadata with all pending pairs laid over them. Each command with effect writes one
@@ -7,6 +7,8 @@
 #![tactic(auto)]
 
 ghost use Rattle.ds_image_laws.specs.Laws.{
+  SlotsByValue,
+  HeadersByValue,
   AlikeByMetadata,
   HaveOneGuard,
   LaidInAnyOrder,
@@ -22,6 +24,12 @@ ghost use Rattle.ds_image_laws.specs.Laws.{
   RunDoesAll,
   PlannersAreRight,
 };
+
+/// The slots and headers that sectors spell are functions of the sectors' bytes.
+pub fn marks_are_by_value()
+    ensures slots { SlotsByValue }
+    ensures headers { HeadersByValue }
+{}
 
 /// What holds of any lists of sectors: those with the same metadata are alike, a sector has one guard, and where pairs have
 /// no common target, or stand at their sectors already, nothing depends on when they are laid.

@@ -1,4 +1,4 @@
-use Rattle.std.proofs.Common.{◌≡◌, length, rules, arith}
+use Rattle.std.proofs.Common.{◌≡◌, length, rules}
 use Rattle.ds_bytes.specs.Fields.{AllBelow}
 use Rattle.ds_marks.proofs.HeaderIn.{header_in-only}
 use Rattle.ds_marks.proofs.header.Header.of_sector.Goals as goal
