@@ -3,6 +3,7 @@
 use crate::calls_for_tests::{create, key, mkdir};
 use crate::volumes_for_tests::{Volume, numbered_file};
 use ds_base::{Geom, Kind, NodeKind, SectorNo};
+use ds_image::Ask;
 use ds_plan_alone::Asked;
 use ds_tree::{Call, TreeReply};
 use std::alloc::Global;
@@ -58,6 +59,25 @@ fn a_create_asks_in_order(rt: HostRuntime) -> Result<(), Fail> {
         Asked::Read(137),
     ];
     assert_eq!(rt; course.asked.as_slice(), expected.as_slice());
+    Ok(())
+}
+
+#[test]
+fn a_number_whose_births_are_used_up_is_not_made(rt: HostRuntime) -> Result<(), Fail> {
+    let mut volume = Volume::fresh(&rt, rt.alloc(), &SHAPE)?;
+    volume.put_unused(&rt, 145, 1, 1 << 62);
+    let call = create(&rt, key(0), b"disk");
+    let course = volume.course(&rt, rt.alloc(), 0, &call)?;
+    let expected = [
+        Asked::Lock(0),
+        Asked::Read(143),
+        Asked::Lock(2048),
+        Asked::Read(135),
+        Asked::Lock(1),
+        Asked::Read(145),
+    ];
+    assert_eq!(rt; course.asked.as_slice(), expected.as_slice());
+    assert!(rt; matches!(&course.end, Ask::Worn(1)));
     Ok(())
 }
 

@@ -98,6 +98,20 @@ impl Volume {
         self.put(rt, at, &body.encode());
     }
 
+    /// The body of a descriptor that is not in use, whose last birth was this.
+    pub(crate) fn put_unused(&mut self, rt: &impl Abort, at: SectorNo, object: u32, birth: u64) {
+        let body = Body {
+            object,
+            kind: None,
+            links: 0,
+            birth,
+            count: 0,
+            addresses: [0; 96],
+        };
+        assert!(rt; body.is_valid());
+        self.put(rt, at, &body.encode());
+    }
+
     /// A sub-block with these rooms.
     pub(crate) fn put_rooms(&mut self, rt: &impl Abort, at: SectorNo, rooms: [Option<Entry>; 4]) {
         let block = SubBlock { rooms };
