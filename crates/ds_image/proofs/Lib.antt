@@ -3,6 +3,7 @@ pub mod Decoded
 pub mod Guarding
 pub mod Laying
 pub mod FormattedUpTo
+pub mod FormattedInFront
 pub mod FreshLists
 pub mod FreshParts
 pub mod FreshVolume

@@ -1,4 +1,4 @@
-use crate::format;
+use crate::{format, format_sparse};
 use ds_base::{Geom, Sector};
 use ds_layout::decode_vol;
 use std::test::Fail;
@@ -54,6 +54,11 @@ fn a_small_volume_is_formatted(rt: HostRuntime) -> Result<(), Fail> {
     ];
     for (at, sector) in expected {
         assert_eq!(rt; sectors.get(at).copied(), Some(sector), "at {at}");
+    }
+    let lun = format_sparse(rt.alloc(), &geom, volume)?;
+    for (at, sector) in sectors.iter().enumerate() {
+        assert!(rt; at < lun.len() as usize);
+        assert_eq!(rt; lun.sector(at as u32), *sector, "at {at}");
     }
     Ok(())
 }
