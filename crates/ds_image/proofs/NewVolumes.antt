@@ -3,3 +3,4 @@ pub mod FormattedUpTo
 pub mod FreshLists
 pub mod FreshParts
 pub mod FreshVolume
+pub mod FormattedInFront

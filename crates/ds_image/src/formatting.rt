@@ -2,7 +2,7 @@
 ghost use Rattle.std.specs.Prelude.{◌≡◌, ◌<◌, IfOk, List, replicate};
 ghost use Rattle.ds_base.specs.Geometry.{IsGeom, clusters_of};
 ghost use Rattle.ds_base.specs.declared.sectors.Sector.{Sector};
-ghost use Rattle.ds_layout.specs.Places.{total_of, IsPlace, place_sector};
+ghost use Rattle.ds_layout.specs.Places.{total_of, blocks_at, IsPlace, place_sector};
 ghost use Rattle.ds_layout.specs.declared.places.Place.{Place};
 ghost use Rattle.ds_tree.specs.Nodes.{fresh_tree};
 ghost use Rattle.ds_image.specs.Formatted.{fresh_slot, fresh_header, fresh_body, fresh_bits, formatted_at, IsFormatted};
@@ -10,10 +10,11 @@ ghost use Rattle.ds_image.specs.Logical.{IsLogical};
 ghost use Rattle.ds_layout.specs.Metadata.{front_of};
 ghost use Rattle.ds_image.specs.Sound.{StandsFor};
 
-use ds_base::{Geom, Kind, NoMemory, NodeKind, ObjNo, Sector, SectorNo};
+use ds_base::{Command, Geom, Kind, NoMemory, NodeKind, ObjNo, Sector, SectorNo};
 use ds_bitmap::Bits;
 use ds_fd::Body;
-use ds_layout::{Place, encode_fs, encode_vol, place_of, total};
+use ds_layout::{Place, encode_fs, encode_vol, place_of, sector_of, total};
+use ds_lun::MemLun;
 use ds_marks::{Header, Journal, Slot, SlotState};
 use std::alloc::Global;
 use uuid::Uuid;
@@ -34,6 +35,31 @@ pub fn format(alloc: Global, geom: &Geom, volume: Uuid) -> Result<Vec<Sector>, N
             .map_err(|_| NoMemory)?;
     }
     Ok(sectors)
+}
+
+/// The same volume, on a device that keeps only the sectors other than zero.
+pub fn format_sparse(alloc: Global, geom: &Geom, volume: Uuid) -> Result<MemLun, NoMemory>
+    requires { IsGeom geom.now }
+    ensures formatted { IfOk result (λ lun. IsFormatted geom.now volume lun.sectors) }
+    ensures logical { IfOk result (λ lun. IsLogical geom.now lun.sectors (front_of geom.now lun.sectors)) }
+    ensures stands { IfOk result (λ lun. (image : List Sector) → IsLogical geom.now lun.sectors image
+        → StandsFor geom.now image (fresh_tree geom.now)) }
+{
+    let mut lun = MemLun::sparse(alloc, total(geom))?;
+    for at in 0..first_block(geom) {
+        let fresh = sector_numbered(geom, volume, at);
+        lun.make_room(1)?;
+        lun.do_command(&Command::Write { at, fresh });
+    }
+    Ok(lun)
+}
+
+/// The first sector of the file blocks, behind which all sectors of a new volume are zero.
+fn first_block(geom: &Geom) -> SectorNo
+    requires { IsGeom geom.now }
+    ensures { result ≡ blocks_at geom.now }
+{
+    sector_of(geom, &Place::Block { block: 0, index: 0 })
 }
 
 fn sector_numbered(geom: &Geom, volume: Uuid, at: SectorNo) -> Sector

@@ -25,7 +25,7 @@ mod trees;
 mod users;
 
 pub use asks::Ask;
-pub use formatting::format;
+pub use formatting::{format, format_sparse};
 pub use guards::guard;
 pub use images::{Image, ImageFault};
 pub use listings::{addresses_in, blocks_of, pointer_blocks, ptrs_of, subs_of};

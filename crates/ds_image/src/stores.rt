@@ -15,7 +15,7 @@ pub trait Store {
 }
 
 impl Store for MemLun {
-    ghost sectors = { λ lun. lun };
+    ghost sectors = { λ lun. lun.sectors };
 
     fn sector(&self, at: SectorNo) -> Sector {
         MemLun::sector(self, at)

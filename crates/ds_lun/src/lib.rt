@@ -1,6 +1,9 @@
-//! A device of logical blocks in memory.
+//! Devices of logical blocks in memory.
 #![tactic(auto)]
 
+mod comparing;
+mod flat_device;
 mod memory_device;
 
+pub use flat_device::FlatLun;
 pub use memory_device::MemLun;

@@ -1,116 +1,147 @@
-//! A flat list of sectors, and the commands on it.
-ghost use Rattle.std.specs.Prelude.{◌≡◌, ◌<◌, ◌^◌, length, slice_get, slice_set, MatchOption, IfSome, Some};
-ghost use Rattle.ds_base.specs.Device.{stored, target_of, Answers, IsFirstDifference};
+//! A device that keeps only the sectors in use, and the commands on it.
+ghost use Rattle.std.specs.Prelude.{◌≡◌, ◌<◌, ◌≤◌, ◌+◌, ◌^◌, ℕ, length, replicate, slice_get, slice_set, MatchOption, IfSome, IfOk, OnOk, Some, None, nat_eq};
+ghost use Rattle.ds_base.specs.Device.{stored, target_of, Answers, IsTheAnswer, IsFirstDifference};
+ghost use Rattle.ds_lun.specs.Devices.{zero_sector, writes_of};
 
-use ds_base::{Command, Response, Sector, SectorNo};
+use crate::comparing::first_difference;
+use ds_base::{Command, NoMemory, Response, Sector, SectorNo};
+use std::alloc::Global;
+use std::collections::HashMap;
 use std::marker::Model;
 
-/// The sectors of a device: fewer than 2^32.
+/// A device of fewer than 2^32 sectors. It keeps only those that are, or once were, other than zero.
 #[derive(Drop)]
 pub struct MemLun {
-    sectors: Vec<Sector>,
+    len: u32,
+    kept: HashMap<SectorNo, Sector>,
 }
 
 impl Model for MemLun {
-    ghost use Rattle.std.specs.Prelude.{◌<◌, ◌^◌, List, length};
-    ghost use Rattle.ds_base.specs.declared.sectors.Sector.{Sector};
+    ghost use Rattle.std.specs.Prelude.{nat_eq};
+    ghost use Rattle.std.specs.HashMap.{get, spare as room_of};
+    ghost use Rattle.ds_lun.specs.Devices.{DeviceValue, sectors_of};
 
-    ghost Value = { List Sector };
+    ghost Value = { DeviceValue };
 
-    ghost view = { λ lun. lun.sectors.items };
-
-    ghost invariant = { λ lun. length lun.sectors.items < 2 ^ 32 };
+    ghost view = { λ lun. record { sectors = sectors_of (get nat_eq lun.kept) lun.len; spare = room_of lun.kept } };
 }
 
 impl MemLun {
     /// A device that holds these sectors.
-    pub fn from_list(sectors: Vec<Sector>) -> MemLun
+    pub fn from_list(alloc: Global, sectors: Vec<Sector>) -> Result<MemLun, NoMemory>
         requires { length sectors.items < 2 ^ 32 }
-        ensures { result ≡ sectors.items }
+        ensures { IfOk result (λ lun. lun.sectors ≡ sectors.items) }
     {
-        MemLun { sectors }
+        let len = sectors.len() as u32;
+        let mut lun = MemLun::sparse(alloc, len)?;
+        for at in 0..len {
+            lun.make_room(1)?;
+            lun.put(at, &sectors[at as usize]);
+        }
+        Ok(lun)
+    }
+
+    /// A device of `len` sectors that are all zero.
+    pub fn sparse(alloc: Global, len: u32) -> Result<MemLun, NoMemory>
+        ensures { IfOk result (λ lun. lun.sectors ≡ replicate len zero_sector) }
+    {
+        Ok(MemLun {
+            len,
+            kept: HashMap::new(alloc),
+        })
+    }
+
+    /// Makes room for so many sectors more. Without memory it may still have made some.
+    pub fn make_room(&mut self, sectors: u32) -> Result<(), NoMemory>
+        ensures room { OnOk result (sectors ≤ self.new.spare) }
+        ensures sectors { self.new.sectors ≡ self.old.sectors }
+        ensures spare { self.old.spare ≤ self.new.spare }
+    {
+        self.kept.reserve(sectors as usize).map_err(|_| NoMemory)
     }
 
     /// The number of sectors.
     pub fn len(&self) -> u32
-        ensures { result ≡ length self.now }
+        ensures { result ≡ length self.now.sectors }
     {
-        self.sectors.len() as u32
+        self.len
     }
 
     pub fn sector(&self, at: SectorNo) -> Sector
-        requires { at < length self.now }
-        ensures { slice_get self.now at ≡ Some result }
+        requires { at < length self.now.sectors }
+        ensures { slice_get self.now.sectors at ≡ Some result }
     {
-        *self.held(at)
-    }
-
-    fn held(&self, at: SectorNo) -> &Sector
-        requires { at < length self.now }
-        ensures { slice_get self.now at ≡ Some result.now }
-    {
-        &self.sectors[at as usize]
-    }
-
-    /// Puts the image into its sector.
-    pub fn write(&mut self, at: SectorNo, fresh: &Sector)
-        requires { at < length self.old }
-        ensures { self.new ≡ slice_set self.old at fresh.now }
-    {
-        self.sectors[at as usize] = *fresh;
-    }
-
-    /// Puts `fresh` into the sector where that holds `verify`. Otherwise nothing changes, and the least offset at which the
-    /// sector and `verify` differ is told.
-    pub fn compare_and_write(
-        &mut self,
-        at: SectorNo,
-        verify: &Sector,
-        fresh: &Sector,
-    ) -> Option<u16>
-        requires { at < length self.old }
-        ensures stored { self.new ≡ stored self.old (Command.Swap at verify.now fresh.now) }
-        ensures answer { MatchOption result (Answers self.old (Command.Swap at verify.now fresh.now) Response.Done)
-            (λ offset. Answers self.old (Command.Swap at verify.now fresh.now) (Response.Miscompare offset)) }
-        ensures within { IfSome result (λ offset. offset < 512) }
-    {
-        match first_difference(self.held(at), verify) {
-            None => {
-                self.write(at, fresh);
-                None
-            }
-            Some(offset) => Some(offset),
+        match self.kept.get(&at) {
+            Some(held) => *held,
+            None => Sector::zero(),
         }
+    }
+
+    /// Makes a sector zero, and no longer keeps it. Takes no room.
+    pub fn zero(&mut self, at: SectorNo)
+        requires { at < length self.old.sectors }
+        ensures sectors { self.new.sectors ≡ slice_set self.old.sectors at zero_sector }
+        ensures spare { self.old.spare ≤ self.new.spare }
+    {
+        self.kept.remove(&at);
     }
 
     /// Does a command, and answers it: never by `Fault`. Takes no memory.
     pub fn do_command(&mut self, command: &Command) -> Response
-        requires { target_of command.now < length self.old }
-        ensures stored { self.new ≡ stored self.old command.now }
-        ensures answer { Answers self.old command.now result }
+        requires there { target_of command.now < length self.old.sectors }
+        requires room { 0 < self.old.spare }
+        ensures stored { self.new.sectors ≡ stored self.old.sectors command.now }
+        ensures answer { Answers self.old.sectors command.now result }
+        ensures only { IsTheAnswer self.old.sectors command.now result }
+        ensures within { (offset : ℕ) → result ≡ Response.Miscompare offset → offset < 512 }
+        ensures spare { self.old.spare ≤ self.new.spare + writes_of self.old.sectors command.now }
     {
         match command {
             Command::Read { at } => Response::Got(self.sector(*at)),
             Command::Write { at, fresh } => {
-                self.write(*at, fresh);
+                self.put(*at, fresh);
                 Response::Done
             }
-            Command::Swap { at, verify, fresh } => match self.compare_and_write(
-                *at, verify, fresh,
-            ) {
-                None => Response::Done,
+            Command::Swap { at, verify, fresh } => match self.mismatch(*at, verify) {
+                None => {
+                    self.put(*at, fresh);
+                    Response::Done
+                }
                 Some(offset) => Response::Miscompare { offset },
             },
         }
     }
-}
 
-fn first_difference(held: &Sector, verify: &Sector) -> Option<u16>
-    ensures first { MatchOption result (held.now ≡ verify.now)
-        (λ offset. IsFirstDifference held.now.bytes verify.now.bytes offset) }
-    ensures within { IfSome result (λ offset. offset < 512) }
-{
-    // A read of the bytes shows that there are 512.
-    let _bytes = &held.bytes;
-    held.first_difference(verify)
+    /// The least offset at which the sector and the image differ.
+    fn mismatch(&self, at: SectorNo, verify: &Sector) -> Option<u16>
+        requires { at < length self.now.sectors }
+        ensures first { MatchOption result (slice_get self.now.sectors at ≡ Some verify.now)
+            (λ offset. (s : Sector) × (slice_get self.now.sectors at ≡ Some s)
+            × IsFirstDifference s.bytes verify.now.bytes offset) }
+        ensures within { IfSome result (λ offset. offset < 512) }
+    {
+        match self.kept.get(&at) {
+            Some(held) => first_difference(held, verify),
+            None => first_difference(&Sector::zero(), verify),
+        }
+    }
+
+    /// Puts the image into its sector. One that is zero and not kept stays so.
+    fn put(&mut self, at: SectorNo, fresh: &Sector)
+        requires there { at < length self.old.sectors }
+        requires room { 0 < self.old.spare }
+        ensures sectors { self.new.sectors ≡ slice_set self.old.sectors at fresh.now }
+        ensures spare { self.old.spare ≤ self.new.spare + 1 }
+    {
+        if let Some(held) = self.kept.get_mut(&at) {
+            *held = *fresh;
+            return;
+        }
+        if let Some(_) = first_difference(fresh, &Sector::zero()) {
+            match self.kept.insert(at, *fresh) {
+                Ok(_) => {}
+                Err(_) => unreachable!(),
+            }
+        }
+    }
 }

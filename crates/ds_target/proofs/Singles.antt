@@ -16,9 +16,10 @@ use Rattle.ds_scsi.specs.declared.command_blocks.Cdb.TheVariants.{Read, Write, S
 use Rattle.ds_scsi.specs.declared.command_blocks.CdbFault.{CdbFault}
 use Rattle.ds_scsi.specs.declared.sense_data.Sense.TheVariants.{Miscompare}
 use Rattle.ds_scsi.specs.SenseData.{sense_bytes}
+use Rattle.ds_lun.specs.Devices.{writes_of}
 use Rattle.ds_target.specs.declared.execution.ScsiReply.{ScsiReply}
 use Rattle.ds_target.specs.Blocks.{bytes_from, images_in, overwritten}
-use Rattle.ds_target.specs.Execution.{count_of, is_verified, written, sectors_after, data_in, Replies, TellsMismatch, good}
+use Rattle.ds_target.specs.Execution.{count_of, is_verified, written, sectors_after, blocks_written, data_in, Replies, TellsMismatch, good}
 use Rattle.ds_target.proofs.Runs.{overwritten_none, overwritten_one, bytes_from_one}
 use Rattle.ds_target.proofs.Comparing.{is_verified_one, stored_one}
 
@@ -88,6 +89,33 @@ swap_one sectors at read out verify fresh within is verify_is fresh_is whole =
     let rest : take 512 (drop 512 out) ≡ drop 512 out = take_all 512 (drop 512 out) (omega (arith, length-drop 512 out)) in
     ap by_read is ∙ ap chosen (in_range_one sectors at within)
     ∙ sym (stored_one sectors at out verify fresh within (sym verify_is) (sym (rest ∙ fresh_is)))
+
+none_chosen : (b : Bool) → cond {A = ℕ} b 0 0 ≡ 0
+none_chosen true = refl
+none_chosen false = refl
+
+-- a READ writes nothing
+pub reads_one : (sectors : List Sector) (at : ℕ) (read : Result Cdb CdbFault) (out : List ℕ) → read ≡ Ok (Read at 1) → blocks_written sectors read out ≡ 0
+reads_one sectors at read out is =
+    let by_read : Result Cdb CdbFault → ℕ = λ r. blocks_written sectors r out in
+    ap by_read is ∙ none_chosen _
+
+-- a WRITE of one block that is there writes one
+pub writes_one : (sectors : List Sector) (at : ℕ) (read : Result Cdb CdbFault) (out : List ℕ) → at < length sectors → read ≡ Ok (Write at 1) → blocks_written sectors read out ≡ 1
+writes_one sectors at read out within is =
+    let by_read : Result Cdb CdbFault → ℕ = λ r. blocks_written sectors r out in
+    let chosen : Bool → ℕ = λ b. cond (not b && true) 1 0 in
+    ap by_read is ∙ ap chosen (in_range_one sectors at within)
+
+-- a COMPARE AND WRITE of one block that is there writes as many as that Swap
+pub swaps_one : (sectors : List Sector) (at : ℕ) (read : Result Cdb CdbFault) (out : List ℕ) (verify fresh : Sector) → at < length sectors
+    → read ≡ Ok (Swap at 1) → take 512 out ≡ verify.bytes → blocks_written sectors read out ≡ writes_of sectors (SwapOne at verify fresh)
+swaps_one sectors at read out verify fresh within is verify_is =
+    let by_read : Result Cdb CdbFault → ℕ = λ r. blocks_written sectors r out in
+    let held : Bool = is_verified sectors (Swap at 1) out in
+    let chosen : Bool → ℕ = λ b. cond (not b && held) 1 0 in
+    let as_held : Bool → ℕ = λ b. cond b 1 0 in
+    ap by_read is ∙ ap chosen (in_range_one sectors at within) ∙ ap as_held (is_verified_one sectors at out verify within (sym verify_is))
 
 -- a difference from the Data-Out buffer is one from the verify instance
 difference_out : (xs image out : List ℕ) (offset : ℕ) → take 512 out ≡ image → offset < 512

@@ -1,6 +1,7 @@
 -- What a command does to the sectors of a device, and how it is answered: SBC-3, the sections "READ (16) command",
 -- "WRITE (16) command" and "COMPARE AND WRITE command"; the statuses are those of SAM-5, 5.3 "Status". The order in which
--- the causes of a refusal are looked for, and the sense data of each, is this project's profile.
+-- the causes of a refusal are looked for is this project's profile; the sense key and the additional sense code of each
+-- are those of SPC-4's tables of them.
 use Rattle.std.specs.Prelude.{◌≡◌, ℕ, ◌+◌, ◌*◌, ◌<◌, ◌==◌, nat_lt, Bool, true, not, ◌&&◌, List, [], length, take, drop, Some, None, Result, Ok, Err, MatchBool, if◌then◌else◌}
 use Rattle.std.specs.Str.{bytes_eq}
 use Rattle.ds_base.specs.declared.sectors.Sector.{Sector}
@@ -27,6 +28,12 @@ abbrev pub count_of : Cdb → ℕ
 count_of (Read lba count) = count
 count_of (Write lba count) = count
 count_of (Swap lba count) = count
+
+-- how many logical blocks it writes where it is carried out
+abbrev pub room_of : Cdb → ℕ
+room_of (Read lba count) = 0
+room_of (Write lba count) = count
+room_of (Swap lba count) = count
 
 -- whether it asks for a sector that isn't there; one that asks for none does not
 abbrev pub is_out_of_range : List Sector → Cdb → Bool
@@ -76,11 +83,21 @@ Replies sectors (Ok cdb) out reply =
     (reply ≡ good (in_len_of cdb))
     (TellsMismatch sectors cdb out reply))
 
+-- whatever replies to a command is this reply
+abbrev pub IsTheReply : List Sector → Result Cdb CdbFault → List ℕ → ScsiReply → Type 0
+IsTheReply sectors read out reply = (other : ScsiReply) → Replies sectors read out other → reply ≡ other
+
 -- the sectors after a command: as before, unless it could be read, its sectors are there and what it verifies is held
 abbrev pub sectors_after : List Sector → Result Cdb CdbFault → List ℕ → List Sector
 sectors_after sectors (Err fault) out = sectors
 sectors_after sectors (Ok cdb) out =
     if not (is_out_of_range sectors cdb) && is_verified sectors cdb out then written sectors cdb out else sectors
+
+-- how many blocks a command writes
+abbrev pub blocks_written : List Sector → Result Cdb CdbFault → List ℕ → ℕ
+blocks_written sectors (Err fault) out = 0
+blocks_written sectors (Ok cdb) out =
+    if not (is_out_of_range sectors cdb) && is_verified sectors cdb out then room_of cdb else 0
 
 -- the bytes that a command reads: those of the sectors that a READ asks for
 abbrev pub bytes_read : List Sector → Cdb → List ℕ

@@ -2,7 +2,7 @@
 ghost use Rattle.std.specs.Prelude.{◌≡◌, ◌+◌, ◌^◌, ◌<◌, ◌≤◌, ◌++◌, length, drop, MatchBool, MatchOption, if◌then◌else◌};
 ghost use Rattle.std.specs.Result.{ForOk};
 ghost use Rattle.ds_scsi.specs.CommandBlocks.{cdb_at, in_len_of, out_len_of, IsWithinProfile};
-ghost use Rattle.ds_target.specs.Execution.{lba_of, count_of, is_verified, written, bytes_read, TellsMismatch, Replies, sectors_after, data_in, cause_of, good, check_condition};
+ghost use Rattle.ds_target.specs.Execution.{lba_of, count_of, room_of, is_verified, written, bytes_read, TellsMismatch, Replies, IsTheReply, sectors_after, blocks_written, data_in, cause_of, good, check_condition};
 
 use crate::transfers::{compare_and_write, read_blocks, write_blocks};
 use ds_base::SectorNo;
@@ -26,9 +26,12 @@ const CHECK_CONDITION: u8 = 0x02;
 pub fn execute(lun: &mut MemLun, cdb: &[u8], out: &[u8], into: &mut [u8]) -> ScsiReply
     requires data_out { ForOk (cdb_at cdb.now) (λ form. length out.now ≡ out_len_of form) }
     requires data_in { ForOk (cdb_at cdb.now) (λ form. in_len_of form ≤ length into.old) }
-    ensures reply { Replies lun.old (cdb_at cdb.now) out.now result }
-    ensures sectors { lun.new ≡ sectors_after lun.old (cdb_at cdb.now) out.now }
-    ensures data_in { into.new ≡ data_in lun.old (cdb_at cdb.now) ++ drop result.sent into.old }
+    requires room { ForOk (cdb_at cdb.now) (λ form. room_of form ≤ lun.old.spare) }
+    ensures reply { Replies lun.old.sectors (cdb_at cdb.now) out.now result }
+    ensures only { IsTheReply lun.old.sectors (cdb_at cdb.now) out.now result }
+    ensures sectors { lun.new.sectors ≡ sectors_after lun.old.sectors (cdb_at cdb.now) out.now }
+    ensures data_in { into.new ≡ data_in lun.old.sectors (cdb_at cdb.now) ++ drop result.sent into.old }
+    ensures spare { lun.old.spare ≤ lun.new.spare + blocks_written lun.old.sectors (cdb_at cdb.now) out.now }
 {
     match read_cdb(cdb) {
         Ok(form) => execute_form(lun, &form, out, into),
@@ -40,9 +43,11 @@ fn execute_form(lun: &mut MemLun, form: &Cdb, out: &[u8], into: &mut [u8]) -> Sc
     requires limits { IsWithinProfile form.now }
     requires data_out { length out.now ≡ out_len_of form.now }
     requires data_in { in_len_of form.now ≤ length into.old }
-    ensures reply { Replies lun.old (Ok form.now) out.now result }
-    ensures sectors { lun.new ≡ sectors_after lun.old (Ok form.now) out.now }
-    ensures data_in { into.new ≡ data_in lun.old (Ok form.now) ++ drop result.sent into.old }
+    requires room { room_of form.now ≤ lun.old.spare }
+    ensures reply { Replies lun.old.sectors (Ok form.now) out.now result }
+    ensures sectors { lun.new.sectors ≡ sectors_after lun.old.sectors (Ok form.now) out.now }
+    ensures data_in { into.new ≡ data_in lun.old.sectors (Ok form.now) ++ drop result.sent into.old }
+    ensures spare { lun.old.spare ≤ lun.new.spare + blocks_written lun.old.sectors (Ok form.now) out.now }
 {
     if count_of(form) == 0 {
         return good(0);
@@ -58,14 +63,18 @@ fn carry_out(lun: &mut MemLun, form: &Cdb, at: SectorNo, out: &[u8], into: &mut 
     requires limits { IsWithinProfile form.now }
     requires some { 0 < count_of form.now }
     requires first { at ≡ lba_of form.now }
-    requires range { at + count_of form.now ≤ length lun.old }
+    requires range { at + count_of form.now ≤ length lun.old.sectors }
     requires fits { at + count_of form.now < 2 ^ 32 }
     requires data_out { length out.now ≡ out_len_of form.now }
     requires data_in { in_len_of form.now ≤ length into.old }
-    ensures reply { MatchBool (is_verified lun.old form.now out.now)
-        (result ≡ good (in_len_of form.now)) (TellsMismatch lun.old form.now out.now result) }
-    ensures sectors { lun.new ≡ (if is_verified lun.old form.now out.now then written lun.old form.now out.now else lun.old) }
-    ensures data_in { into.new ≡ bytes_read lun.old form.now ++ drop result.sent into.old }
+    requires room { room_of form.now ≤ lun.old.spare }
+    ensures reply { MatchBool (is_verified lun.old.sectors form.now out.now)
+        (result ≡ good (in_len_of form.now)) (TellsMismatch lun.old.sectors form.now out.now result) }
+    ensures sectors { lun.new.sectors
+        ≡ (if is_verified lun.old.sectors form.now out.now then written lun.old.sectors form.now out.now else lun.old.sectors) }
+    ensures data_in { into.new ≡ bytes_read lun.old.sectors form.now ++ drop result.sent into.old }
+    ensures spare { lun.old.spare
+        ≤ lun.new.spare + (if is_verified lun.old.sectors form.now out.now then room_of form.now else 0) }
 {
     match form {
         Cdb::Read { count, .. } => {
@@ -87,8 +96,8 @@ fn carry_out(lun: &mut MemLun, form: &Cdb, at: SectorNo, out: &[u8], into: &mut 
 
 /// The first sector that a command asks for; `None` where it asks for one that isn't there.
 fn first_sector(lun: &MemLun, form: &Cdb) -> Option<SectorNo>
-    ensures { MatchOption result (length lun.now < lba_of form.now + count_of form.now)
-        (λ at. (at ≡ lba_of form.now) × (at + count_of form.now ≤ length lun.now) × (at + count_of form.now < 2 ^ 32)) }
+    ensures { MatchOption result (length lun.now.sectors < lba_of form.now + count_of form.now)
+        (λ at. (at ≡ lba_of form.now) × (at + count_of form.now ≤ length lun.now.sectors) × (at + count_of form.now < 2 ^ 32)) }
 {
     let len = lun.len();
     let lba = lba_of(form);

@@ -1,7 +1,8 @@
 //! An initiator of single commands: each goes through the bytes of a command descriptor block, and its answer through a
 //! reply with sense data.
-ghost use Rattle.std.specs.Prelude.{◌≡◌, ◌<◌, ℕ, length, take, drop, Some, None};
-ghost use Rattle.ds_base.specs.Device.{stored, target_of, Answers};
+ghost use Rattle.std.specs.Prelude.{◌≡◌, ◌<◌, ◌≤◌, ◌+◌, ℕ, length, take, drop, Some, None};
+ghost use Rattle.ds_base.specs.Device.{stored, target_of, Answers, IsTheAnswer};
+ghost use Rattle.ds_lun.specs.Devices.{writes_of};
 ghost use Rattle.ds_scsi.specs.SenseData.{sense_bytes};
 
 use crate::execution::{ScsiReply, execute};
@@ -9,11 +10,15 @@ use ds_base::{Command, Response, Sector};
 use ds_lun::MemLun;
 use ds_scsi::{Sense, cdb_of, read_sense};
 
-/// Does a command, and answers it.
+/// Does a command, and answers it, as `MemLun::do_command` does: never by `Fault`, and without memory.
 pub fn send(lun: &mut MemLun, command: &Command) -> Response
-    requires { target_of command.now < length lun.old }
-    ensures stored { lun.new ≡ stored lun.old command.now }
-    ensures answer { Answers lun.old command.now result }
+    requires there { target_of command.now < length lun.old.sectors }
+    requires room { 0 < lun.old.spare }
+    ensures stored { lun.new.sectors ≡ stored lun.old.sectors command.now }
+    ensures answer { Answers lun.old.sectors command.now result }
+    ensures only { IsTheAnswer lun.old.sectors command.now result }
+    ensures within { (offset : ℕ) → result ≡ Response.Miscompare offset → offset < 512 }
+    ensures spare { lun.old.spare ≤ lun.new.spare + writes_of lun.old.sectors command.now }
 {
     let cdb = cdb_of(command);
     match command {
@@ -49,6 +54,7 @@ fn response_to(reply: ScsiReply) -> Response
     ensures done { reply.sense ≡ None → result ≡ Response.Done }
     ensures mismatch { (offset : ℕ) → offset < 512 → reply.sense ≡ Some (sense_bytes (Sense.Miscompare offset))
         → result ≡ Response.Miscompare offset }
+    ensures within { (offset : ℕ) → result ≡ Response.Miscompare offset → offset < 512 }
 {
     let Some(bytes) = reply.sense else {
         return Response::Done;

@@ -2,7 +2,7 @@
 ghost use Rattle.std.specs.Prelude.{◌≡◌};
 
 use crate::calls_for_tests::{has_names, is_on_names, is_reading, is_resize, key};
-use ds_base::{Geom, Key, Kind, Name, NodeKind, Sector, SectorNo, SlotNo};
+use ds_base::{Command, Geom, Key, Kind, Name, NodeKind, Sector, SectorNo, SlotNo};
 use ds_bitmap::Bits;
 use ds_dir::{Entry, SubBlock};
 use ds_fd::Body;
@@ -43,13 +43,14 @@ impl Volume {
         assert!(rt; sectors.len() == total(geom) as usize);
         Ok(Volume {
             geom: *geom,
-            lun: MemLun::from_list(sectors),
+            lun: MemLun::from_list(alloc, sectors)?,
         })
     }
 
     pub(crate) fn put(&mut self, rt: &impl Abort, at: SectorNo, sector: &Sector) {
+        assert!(rt; self.lun.make_room(1).is_ok());
         assert!(rt; at < self.lun.len());
-        self.lun.write(at, sector);
+        self.lun.do_command(&Command::Write { at, fresh: *sector });
     }
 
     /// The bitmap of a cluster whose first items are used.

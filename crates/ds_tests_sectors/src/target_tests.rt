@@ -1,8 +1,8 @@
 //! Worked commands: what is read of their bytes, how they are answered, and what the device holds then.
-ghost use Rattle.std.specs.Prelude.{◌≡◌, length};
+ghost use Rattle.std.specs.Prelude.{◌≡◌, ◌<◌, length};
 
-use ds_base::{Command, Response, Sector};
-use ds_lun::MemLun;
+use ds_base::{Command, Response, Sector, SectorNo};
+use ds_lun::{FlatLun, MemLun};
 use ds_scsi::{Cdb, CdbFault, cdb_of, in_len, out_len, read_cdb};
 use ds_target::{ScsiReply, execute, send};
 use std::alloc::Global;
@@ -56,14 +56,13 @@ fn a_block_is_looked_at_in_order(rt: HostRuntime) {
 }
 
 /// A device of sectors that are all zero.
-fn device(rt: &impl Abort, alloc: Global, count: usize) -> Result<MemLun, Fail> {
-    let sectors = vec![in alloc; Sector::zero(); count]?;
-    assert!(rt; sectors.len() <= 1000);
-    Ok(MemLun::from_list(sectors))
+fn device(alloc: Global, count: u32) -> Result<MemLun, Fail> {
+    Ok(MemLun::sparse(alloc, count)?)
 }
 
-/// Executes a command with buffers as long as it needs.
+/// Executes a command with buffers as long and as much room as it needs.
 fn run(rt: &impl Abort, lun: &mut MemLun, cdb: &[u8], out: &[u8], into: &mut [u8]) -> ScsiReply {
+    assert!(rt; lun.make_room(256).is_ok());
     match read_cdb(cdb) {
         Ok(form) => {
             let (needs, room) = (out_len(&form), in_len(&form));
@@ -116,7 +115,7 @@ const MISCOMPARE_AT_511: [u8; 18] = [
 
 #[test]
 fn compare_and_write_is_carried_out_or_refused(rt: HostRuntime) -> Result<(), Fail> {
-    let mut lun = device(&rt, rt.alloc(), 254)?;
+    let mut lun = device(rt.alloc(), 254)?;
     let written = Sector { bytes: [0xaa; 512] };
     let mut out = [0; 1024];
     out[512..].copy_from_slice(&written.bytes);
@@ -175,7 +174,7 @@ fn assert_refused(
 
 #[test]
 fn runs_past_the_end_are_refused(rt: HostRuntime) -> Result<(), Fail> {
-    let mut lun = device(&rt, rt.alloc(), 300)?;
+    let mut lun = device(rt.alloc(), 300)?;
     let mut buffer = buffer(rt.alloc(), 0x55, 512 * 256)?;
     let bytes = buffer.as_mut_slice();
     let top = u64::MAX;
@@ -213,7 +212,7 @@ fn write_and_read(
 
 #[test]
 fn a_run_of_256_blocks_is_written_and_read(rt: HostRuntime) -> Result<(), Fail> {
-    let mut lun = device(&rt, rt.alloc(), 300)?;
+    let mut lun = device(rt.alloc(), 300)?;
     let mut out = buffer(rt.alloc(), 0, 512 * 256)?;
     for (i, byte) in out.iter_mut().enumerate() {
         *byte = (i % 251) as u8;
@@ -228,10 +227,20 @@ fn a_run_of_256_blocks_is_written_and_read(rt: HostRuntime) -> Result<(), Fail> 
     Ok(())
 }
 
+/// Makes room for a command on a sector that is there.
+fn make_ready(rt: &impl Abort, lun: &mut MemLun, at: SectorNo)
+    ensures there { at < length lun.new.sectors }
+    ensures room { 0 < lun.new.spare }
+{
+    assert!(rt; lun.make_room(1).is_ok());
+    assert!(rt; at < lun.len());
+}
+
 #[test]
 fn commands_are_sent(rt: HostRuntime) -> Result<(), Fail> {
-    let mut flat = device(&rt, rt.alloc(), 6)?;
-    let mut sent = device(&rt, rt.alloc(), 6)?;
+    let mut flat = FlatLun::from_list(vec![in rt.alloc(); Sector::zero(); 6]?);
+    let mut done = MemLun::from_list(rt.alloc(), vec![in rt.alloc(); Sector::zero(); 6]?)?;
+    let mut sent = device(rt.alloc(), 6)?;
     let fresh = Sector { bytes: [7; 512] };
     let mut verify = fresh;
     verify.bytes[300] = 8;
@@ -253,9 +262,14 @@ fn commands_are_sent(rt: HostRuntime) -> Result<(), Fail> {
     for (command, want) in cases {
         assert!(rt; at < flat.len());
         assert_eq!(rt; flat.do_command(&command), want);
-        assert!(rt; at < sent.len());
+        make_ready(&rt, &mut done, at);
+        assert_eq!(rt; done.do_command(&command), want);
+        make_ready(&rt, &mut sent, at);
         assert_eq!(rt; send(&mut sent, &command), want);
     }
+    assert!(rt; at < sent.len());
+    sent.zero(at);
+    assert_eq!(rt; sector_of(&rt, &sent, at), Sector::zero());
     let cdb = [0x89, 0, 0, 0, 0, 0, 0, 0, 0, 5, 0, 0, 0, 1, 0, 0];
     assert_eq!(rt; cdb_of(&differs), cdb);
     Ok(())

@@ -1,5 +1,5 @@
 use ds_base::{Geom, Sector};
-use ds_image::format;
+use ds_image::{format, format_sparse};
 use ds_layout::decode_vol;
 use std::test::Fail;
 use uuid::Uuid;
@@ -54,6 +54,11 @@ fn a_small_volume_is_formatted(rt: HostRuntime) -> Result<(), Fail> {
     ];
     for (at, sector) in expected {
         assert_eq!(rt; sectors.get(at).copied(), Some(sector), "at {at}");
+    }
+    let lun = format_sparse(rt.alloc(), &geom, volume)?;
+    for (at, sector) in sectors.iter().enumerate() {
+        assert!(rt; at < lun.len() as usize);
+        assert_eq!(rt; lun.sector(at as u32), *sector, "at {at}");
     }
     Ok(())
 }

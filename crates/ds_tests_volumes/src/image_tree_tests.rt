@@ -65,7 +65,7 @@ fn tree_on(alloc: Global, geom: &Geom, sectors: Vec<Sector>) -> Result<Option<Tr
     if geom.check().is_err() || sectors.len() != total(geom) as usize {
         return Ok(None);
     }
-    let lun = MemLun::from_list(sectors);
+    let lun = MemLun::from_list(alloc, sectors)?;
     let image = overlay(alloc, geom, &lun)?;
     Ok(read_tree(alloc, &image)?)
 }

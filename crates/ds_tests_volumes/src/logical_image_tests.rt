@@ -1,7 +1,7 @@
 //! A small volume as its hosts leave it: what its logical image holds, what is bad in it, and who guards its sectors.
 
 use arrayvec::ArrayVec;
-use ds_base::{Geom, Kind, NodeKind, Sector, SectorNo, SlotNo};
+use ds_base::{Command, Geom, Kind, NodeKind, Sector, SectorNo, SlotNo};
 use ds_fd::Body;
 use ds_image::{Image, ImageFault, Seen, guard, overlay};
 use ds_jrnl::Index;
@@ -47,8 +47,8 @@ fn committed_slot(count: u8) -> Slot {
 }
 
 fn put(lun: &mut MemLun, at: SectorNo, sector: &Sector) {
-    if at < lun.len() {
-        lun.write(at, sector);
+    if lun.make_room(1).is_ok() && at < lun.len() {
+        lun.do_command(&Command::Write { at, fresh: *sector });
     }
 }
 
@@ -102,7 +102,7 @@ fn put_body(lun: &mut MemLun, object: u32, kind: NodeKind, count: u32, addresses
 
 /// The volume with free slots and headers without owners; every other sector is filled with its own number.
 fn volume(alloc: Global) -> Result<MemLun, Fail> {
-    let mut lun = MemLun::from_list(vec![in alloc; filled(0); 86]?);
+    let mut lun = MemLun::from_list(alloc, vec![in alloc; filled(0); 86]?)?;
     for at in 0..86u8 {
         put(&mut lun, u32::from(at), &filled(at));
     }

@@ -75,6 +75,7 @@ first_value s = record {
   device = zero_sector ∷ [];
   commits = 0;
   log = record { events = []; replies = []; spare = 0 };
+  room = 0;
 }
 
 at_first : (s : Scenario) → StandsAfter first_rules (tree_of first_geom [] ∷ []) []

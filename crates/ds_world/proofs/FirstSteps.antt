@@ -18,21 +18,22 @@ use Rattle.ds_world.proofs.Pushes.{get-push_cases, get-within, count_by-push, fo
 
 -- The room of the log doesn't matter
 
-with_spare : FirstWorldValue → ℕ → FirstWorldValue
-with_spare w spare = record {
+with_spare : FirstWorldValue → ℕ → ℕ → FirstWorldValue
+with_spare w spare room = record {
   scenario = w.scenario;
   position = w.position;
   host = w.host;
   device = w.device;
   commits = w.commits;
   log = record { events = w.log.events; replies = w.log.replies; spare = spare };
+  room = room;
 }
 
-StageHolds-spare : (w : FirstWorldValue) (spare : ℕ) (h : FirstHolds w) (stage : Stage) → StageHolds w h.sector h.block stage → StageHolds (with_spare w spare) h.sector h.block stage
+StageHolds-spare : (w : FirstWorldValue) (spare room : ℕ) (h : FirstHolds w) (stage : Stage) → StageHolds w h.sector h.block stage → StageHolds (with_spare w spare room) h.sector h.block stage
 unfolding with_spare
-StageHolds-spare w spare h Rest holds = tt
-StageHolds-spare w spare h (Reading call) holds = record { due = holds.due; registered = holds.registered; is_name = holds.is_name }
-StageHolds-spare w spare h (Filling name key verify fresh) holds = (
+StageHolds-spare w spare room h Rest holds = tt
+StageHolds-spare w spare room h (Reading call) holds = record { due = holds.due; registered = holds.registered; is_name = holds.is_name }
+StageHolds-spare w spare room h (Filling name key verify fresh) holds = (
   holds.0,
   record {
     under_way = record { due = holds.1.under_way.due; registered = holds.1.under_way.registered; is_name = holds.1.under_way.is_name };
@@ -42,9 +43,9 @@ StageHolds-spare w spare h (Filling name key verify fresh) holds = (
   },
 )
 
-FirstHolds-spare : (w : FirstWorldValue) (spare : ℕ) → FirstHolds w → FirstHolds (with_spare w spare)
+FirstHolds-spare : (w : FirstWorldValue) (spare room : ℕ) → FirstHolds w → FirstHolds (with_spare w spare room)
 unfolding with_spare
-FirstHolds-spare w spare h = record {
+FirstHolds-spare w spare room h = record {
   form = h.form;
   within = h.within;
   sector = h.sector;
@@ -71,7 +72,7 @@ FirstHolds-spare w spare h = record {
   registered = h.registered;
   reached = h.reached;
   sent = h.sent;
-  stage = StageHolds-spare w spare h w.host.stage h.stage;
+  stage = StageHolds-spare w spare room h w.host.stage h.stage;
 }
 
 -- a world with the same values, but for room, holds the same
@@ -79,15 +80,16 @@ pub FirstHolds-as : (v w : FirstWorldValue) → v.scenario ≡ w.scenario → v.
     → v.log.events ≡ w.log.events → v.log.replies ≡ w.log.replies → FirstHolds v → FirstHolds w
 unfolding with_spare
 FirstHolds-as v w scenario position host device commits events replies h =
-    let path : with_spare v w.log.spare ≡ w = λ i. record {
+    let path : with_spare v w.log.spare w.room ≡ w = λ i. record {
       scenario = scenario i;
       position = position i;
       host = host i;
       device = device i;
       commits = commits i;
       log = record { events = events i; replies = replies i; spare = w.log.spare };
+      room = w.room;
     } in
-    subst FirstHolds path (FirstHolds-spare v w.log.spare h)
+    subst FirstHolds path (FirstHolds-spare v w.log.spare w.room h)
 
 -- Counts
 

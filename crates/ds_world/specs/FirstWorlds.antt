@@ -40,8 +40,8 @@ use Rattle.ds_world.specs.Scripts.{list_of, calls_of}
 use Rattle.ds_world.specs.Follows.{is_event_of, finished, held, Follows}
 use Rattle.ds_world.specs.FirstRules.{NumberedFrom, first_rules, tree_of}
 
--- the scenario, the number of directives that its host has finished, the host, the device, the number of
--- commits, and the log
+-- the scenario, the number of directives that its host has finished, the host, the sectors of the device, the number of
+-- commits, the log, and for how many turns there is room
 pub record FirstWorldValue : Type 0 where
   pub scenario : Scenario
   pub position : ℕ
@@ -49,6 +49,7 @@ pub record FirstWorldValue : Type 0 where
   pub device : List Sector
   pub commits : ℕ
   pub log : LogValue
+  pub room : ℕ
 
 -- the turns that are left at the most: two for each directive, less one for a call that has read
 abbrev pub turns_at : Stage → ℕ
@@ -114,6 +115,7 @@ stepped w position host device commits events replies = record {
   device = device;
   commits = commits;
   log = record { events = events; replies = replies; spare = 0 };
+  room = 0;
 }
 
 -- a command of the call under way
@@ -170,7 +172,7 @@ pub record FirstHolds (w : FirstWorldValue) : Type 0 where
   pub sent : count_by (is_event_of 0 (w.position + 1)) w.log.events ≡ sent_at w.host.stage
   pub stage : StageHolds w sector block w.host.stage
 
--- the two differ at most in the room of their logs
+-- the two differ at most in room
 pub record IsSameButRoom (old new : FirstWorldValue) : Type 0 where
   pub same_scenario : new.scenario ≡ old.scenario
   pub same_position : new.position ≡ old.position

@@ -46,6 +46,7 @@ pub struct FirstWorld {
 }
 
 impl Model for FirstWorld {
+    ghost use Rattle.std.specs.Prelude.{min};
     ghost use Rattle.ds_world.specs.FirstWorlds.{FirstWorldValue, FirstHolds};
 
     ghost Value = { FirstWorldValue };
@@ -54,18 +55,20 @@ impl Model for FirstWorld {
       scenario = w.scenario;
       position = w.position;
       host = w.host;
-      device = w.device;
+      device = w.device.sectors;
       commits = w.commits;
       log = w.log;
+      room = min w.log.spare w.device.spare;
     } };
 
     ghost invariant = { λ w. FirstHolds (record {
       scenario = w.scenario;
       position = w.position;
       host = w.host;
-      device = w.device;
+      device = w.device.sectors;
       commits = w.commits;
       log = w.log;
+      room = min w.log.spare w.device.spare;
     }) };
 }
 
@@ -80,27 +83,29 @@ impl FirstWorld {
     {
         let scenario = scenario.copy(alloc)?;
         let sectors = one_zero_sector(alloc)?;
+        let device = MemLun::from_list(alloc, sectors)?;
         Ok(FirstWorld {
             scenario,
             position: 0,
             host: FirstHost::new(),
-            device: MemLun::from_list(sectors),
+            device,
             commits: 0,
             log: Log::new(alloc),
         })
     }
 
-    /// Makes room for one event and its reply.
+    /// Makes room for one turn: for its event and reply, and for a sector of the device.
     pub fn make_room(&mut self) -> Result<(), NoMemory>
-        ensures room { OnOk result (0 < self.new.log.spare) }
+        ensures room { OnOk result (0 < self.new.room) }
         ensures same { IsSameButRoom self.old self.new }
     {
+        self.device.make_room(1)?;
         self.log.make_room()
     }
 
     /// One turn of a host, the scenario's: it adds one event, or none once the host's list is at its end.
     pub fn turn(&mut self, host: HostNo) -> Moved
-        requires room { 0 < self.old.log.spare }
+        requires room { 0 < self.old.room }
         requires known { host < length self.old.scenario.hosts }
         ensures { Turns self.old result self.new }
     {
@@ -149,7 +154,7 @@ impl FirstWorld {
 
     /// Begins the next directive, and goes on to its first command.
     fn begin(&mut self) -> Moved
-        requires room { 0 < self.old.log.spare }
+        requires room { 0 < self.old.room }
         requires rests { self.old.host.stage ≡ stages.Rest }
         ensures { Turns self.old result self.new }
     {
@@ -170,7 +175,7 @@ impl FirstWorld {
 
     /// Lands the command that is due.
     fn land(&mut self, command: Command)
-        requires room { 0 < self.old.log.spare }
+        requires room { 0 < self.old.room }
         requires due { due self.old.host ≡ Next.Send command }
         ensures { AddsEvent self.old self.new }
     {
@@ -183,7 +188,7 @@ impl FirstWorld {
 
     /// Lands the Read of the call under way.
     fn read(&mut self)
-        requires room { 0 < self.old.log.spare }
+        requires room { 0 < self.old.room }
         requires reading { IsReading self.old.host }
         ensures { AddsEvent self.old self.new }
     {
@@ -203,7 +208,7 @@ impl FirstWorld {
 
     /// Lands the Swap of the call under way.
     fn swap(&mut self, command: Command)
-        requires room { 0 < self.old.log.spare }
+        requires room { 0 < self.old.room }
         requires swapping { IsSwapping self.old.host }
         requires due { due self.old.host ≡ Next.Send command }
         ensures { AddsEvent self.old self.new }
@@ -240,9 +245,9 @@ impl FirstWorld {
 
 /// The sub-block of the root directory.
 fn block_of(device: &MemLun) -> SubBlock
-    requires { (sector : Sector) × ((block : SubBlock) × (slice_get device.now 0 ≡ Some sector)
+    requires { (sector : Sector) × ((block : SubBlock) × (slice_get device.now.sectors 0 ≡ Some sector)
         × SpellsRooms sector block) }
-    ensures { (sector : Sector) × (slice_get device.now 0 ≡ Some sector) × SpellsRooms sector result }
+    ensures { (sector : Sector) × (slice_get device.now.sectors 0 ≡ Some sector) × SpellsRooms sector result }
 {
     match SubBlock::decode(&device.sector(0)) {
         Some(block) => block,

@@ -1,3 +1,4 @@
+use Rattle.std.specs.Prelude.{min}
 use Rattle.std.proofs.Common.{inr, ◌≡◌, ◌+◌, ◌++◌, ◌∷◌, [], length, refl, sym, ap, subst, ◌∙◌, arith, Some}
 use Rattle.ds_host.specs.declared.first_host.Stage.TheVariants.{Rest}
 use Rattle.ds_world.specs.declared.logs.Event.{Event}
@@ -14,7 +15,7 @@ use Rattle.ds_world.proofs.first_world.FirstWorld.begin.Goals as goal
 
 pub begin-requires-clause-built : goal.begin-requires-clause-built
 begin-requires-clause-built c =
-    let w : FirstWorldValue = record { scenario = c.self.inside.scenario; position = c.self.inside.position; host = c.self.inside.host; device = c.self.inside.device; commits = c.self.inside.commits; log = c.self.inside.log } in
+    let w : FirstWorldValue = record { scenario = c.self.inside.scenario; position = c.self.inside.position; host = c.self.inside.host; device = c.self.inside.device.sectors; commits = c.self.inside.commits; log = c.self.inside.log; room = min c.self.inside.log.spare c.self.inside.device.spare } in
     let h : FirstHolds w = c.self.invariant in
     let d = c.in-Some.ensures.0 in
     let at : slice_get (list_of w.scenario 0) w.position ≡ Some d = ap (λ (v : FirstWorldValue). slice_get (list_of v.scenario 0) v.position) c.self.view_is ∙ c.in-Some.ensures.1 in
@@ -22,7 +23,7 @@ begin-requires-clause-built c =
 
 pub event_of-event-requires : goal.event_of-event-requires
 event_of-event-requires c =
-    let w : FirstWorldValue = record { scenario = c.self.inside.scenario; position = c.self.inside.position; host = c.self.inside.host; device = c.self.inside.device; commits = c.self.inside.commits; log = c.self.inside.log } in
+    let w : FirstWorldValue = record { scenario = c.self.inside.scenario; position = c.self.inside.position; host = c.self.inside.host; device = c.self.inside.device.sectors; commits = c.self.inside.commits; log = c.self.inside.log; room = min c.self.inside.log.spare c.self.inside.device.spare } in
     let h : FirstHolds w = c.self.invariant in
     let d = c.in-Some.ensures.0 in
     let at : slice_get (list_of w.scenario 0) w.position ≡ Some d = ap (λ (v : FirstWorldValue). slice_get (list_of v.scenario 0) v.position) c.self.view_is ∙ c.in-Some.ensures.1 in
@@ -30,7 +31,7 @@ event_of-event-requires c =
 
 pub reply_of-reply-requires : goal.reply_of-reply-requires
 reply_of-reply-requires c =
-    let w : FirstWorldValue = record { scenario = c.self.inside.scenario; position = c.self.inside.position; host = c.self.inside.host; device = c.self.inside.device; commits = c.self.inside.commits; log = c.self.inside.log } in
+    let w : FirstWorldValue = record { scenario = c.self.inside.scenario; position = c.self.inside.position; host = c.self.inside.host; device = c.self.inside.device.sectors; commits = c.self.inside.commits; log = c.self.inside.log; room = min c.self.inside.log.spare c.self.inside.device.spare } in
     let h : FirstHolds w = c.self.invariant in
     let d = c.in-Some.ensures.0 in
     let at : slice_get (list_of w.scenario 0) w.position ≡ Some d = ap (λ (v : FirstWorldValue). slice_get (list_of v.scenario 0) v.position) c.self.view_is ∙ c.in-Some.ensures.1 in
@@ -38,7 +39,7 @@ reply_of-reply-requires c =
 
 pub invariant_of-self-in-None : goal.invariant_of-self-in-None
 invariant_of-self-in-None c =
-    let w : FirstWorldValue = record { scenario = c.self.inside.scenario; position = c.self.inside.position; host = c.self.inside.host; device = c.self.inside.device; commits = c.self.inside.commits; log = c.self.inside.log } in
+    let w : FirstWorldValue = record { scenario = c.self.inside.scenario; position = c.self.inside.position; host = c.self.inside.host; device = c.self.inside.device.sectors; commits = c.self.inside.commits; log = c.self.inside.log; room = min c.self.inside.log.spare c.self.inside.device.spare } in
     let h : FirstHolds w = c.self.invariant in
     let d = c.in-Some.ensures.0 in
     let at : slice_get (list_of w.scenario 0) w.position ≡ Some d = ap (λ (v : FirstWorldValue). slice_get (list_of v.scenario 0) v.position) c.self.view_is ∙ c.in-Some.ensures.1 in
@@ -49,7 +50,7 @@ invariant_of-self-in-None c =
 
 pub invariant_of-self : goal.invariant_of-self
 invariant_of-self c =
-    let w : FirstWorldValue = record { scenario = c.self.inside.scenario; position = c.self.inside.position; host = c.self.inside.host; device = c.self.inside.device; commits = c.self.inside.commits; log = c.self.inside.log } in
+    let w : FirstWorldValue = record { scenario = c.self.inside.scenario; position = c.self.inside.position; host = c.self.inside.host; device = c.self.inside.device.sectors; commits = c.self.inside.commits; log = c.self.inside.log; room = min c.self.inside.log.spare c.self.inside.device.spare } in
     let h : FirstHolds w = c.self.invariant in
     let rests : w.host.stage ≡ Rest = ap (λ (v : FirstWorldValue). v.host.stage) c.self.view_is ∙ c.requires.rests in
     let d = c.in-Some.ensures.0 in
@@ -67,7 +68,7 @@ invariant_of-self c =
 
 pub returns-in-Some-begin : goal.returns-in-Some-begin
 returns-in-Some-begin c =
-    let w : FirstWorldValue = record { scenario = c.self.inside.scenario; position = c.self.inside.position; host = c.self.inside.host; device = c.self.inside.device; commits = c.self.inside.commits; log = c.self.inside.log } in
+    let w : FirstWorldValue = record { scenario = c.self.inside.scenario; position = c.self.inside.position; host = c.self.inside.host; device = c.self.inside.device.sectors; commits = c.self.inside.commits; log = c.self.inside.log; room = min c.self.inside.log.spare c.self.inside.device.spare } in
     let h : FirstHolds w = c.self.invariant in
     let rests : w.host.stage ≡ Rest = ap (λ (v : FirstWorldValue). v.host.stage) c.self.view_is ∙ c.requires.rests in
     let d = c.in-Some.ensures.0 in
@@ -80,7 +81,7 @@ returns-in-Some-begin c =
     let reply : c.reply_of-reply.result ≡ reply_now w answer (place_of answer w.commits) =
     c.reply_of-reply.ensures ∙ (λ i. record { event = c.len.ensures i; host = 0; directive = w.position + 1; answer = answer; place = place_of answer w.commits }) in
     let events : c.add_answered.new.self.events ≡ w.log.events ++ local_event w ∷ [] = c.add_answered.ensures.events ∙ ap (λ (e : Event). w.log.events ++ e ∷ []) event in
-    let after : FirstWorldValue = record { scenario = w.scenario; position = w.position + 1; host = new; device = w.device; commits = w.commits; log = c.add_answered.new.self } in
+    let after : FirstWorldValue = record { scenario = w.scenario; position = w.position + 1; host = new; device = w.device; commits = w.commits; log = c.add_answered.new.self; room = min c.add_answered.new.self.spare c.self.inside.device.spare } in
     let P : FirstWorldValue → Type 0 = λ v. AddsEvent v after in
     let due = get-within (list_of w.scenario 0) w.position d at in
     subst P c.self.view_is (record {

@@ -1,3 +1,4 @@
+use Rattle.std.specs.Prelude.{min}
 use Rattle.std.proofs.Common.{◌≡◌, List, length, Some, refl, sym, ap, ◌∙◌}
 use Rattle.std.specs.Prelude.{slice_get}
 use Rattle.std.proofs.lemmas.Option.{slice_get_read}
@@ -9,7 +10,7 @@ use Rattle.ds_world.proofs.first_world.FirstWorld.call_due.Goals as goal
 
 pub call_of-requires : goal.call_of-requires
 call_of-requires c =
-    let w : FirstWorldValue = record { scenario = c.self.inside.scenario; position = c.self.inside.position; host = c.self.inside.host; device = c.self.inside.device; commits = c.self.inside.commits; log = c.self.inside.log } in
+    let w : FirstWorldValue = record { scenario = c.self.inside.scenario; position = c.self.inside.position; host = c.self.inside.host; device = c.self.inside.device.sectors; commits = c.self.inside.commits; log = c.self.inside.log; room = min c.self.inside.log.spare c.self.inside.device.spare } in
     let h : FirstHolds w = c.self.invariant in
     let d = c.in_ok-directive.directive.now in
     let item = c.in_ok-directive.ensures.lookup in

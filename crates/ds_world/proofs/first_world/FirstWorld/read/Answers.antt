@@ -1,3 +1,4 @@
+use Rattle.std.specs.Prelude.{min}
 use Rattle.std.proofs.Common.{inl, inr, ◌≡◌, ◌+◌, ◌++◌, ◌∷◌, [], false, length, refl, sym, ap, subst, ◌∙◌, arith, Option}
 use Rattle.ds_base.specs.declared.commands.Command.TheVariants.{Read}
 use Rattle.ds_host.specs.declared.answers.HostAnswer.{HostAnswer}
@@ -12,7 +13,7 @@ use Rattle.ds_world.proofs.first_world.FirstWorld.read.Goals as goal
 
 pub take-answer-requires : goal.take-answer-requires
 take-answer-requires c =
-    let w : FirstWorldValue = record { scenario = c.self.inside.scenario; position = c.self.inside.position; host = c.self.inside.host; device = c.self.inside.device; commits = c.self.inside.commits; log = c.self.inside.log } in
+    let w : FirstWorldValue = record { scenario = c.self.inside.scenario; position = c.self.inside.position; host = c.self.inside.host; device = c.self.inside.device.sectors; commits = c.self.inside.commits; log = c.self.inside.log; room = min c.self.inside.log.spare c.self.inside.device.spare } in
     let h : FirstHolds w = c.self.invariant in
     let call = c.requires.reading.0 in
     let stage : w.host.stage ≡ Reading call = ap (λ (v : FirstWorldValue). v.host.stage) c.self.view_is ∙ c.requires.reading.1 in
@@ -20,7 +21,7 @@ take-answer-requires c =
 
 pub event_of-event-requires : goal.event_of-event-requires
 event_of-event-requires c =
-    let w : FirstWorldValue = record { scenario = c.self.inside.scenario; position = c.self.inside.position; host = c.self.inside.host; device = c.self.inside.device; commits = c.self.inside.commits; log = c.self.inside.log } in
+    let w : FirstWorldValue = record { scenario = c.self.inside.scenario; position = c.self.inside.position; host = c.self.inside.host; device = c.self.inside.device.sectors; commits = c.self.inside.commits; log = c.self.inside.log; room = min c.self.inside.log.spare c.self.inside.device.spare } in
     let h : FirstHolds w = c.self.invariant in
     let call = c.requires.reading.0 in
     let stage : w.host.stage ≡ Reading call = ap (λ (v : FirstWorldValue). v.host.stage) c.self.view_is ∙ c.requires.reading.1 in
@@ -28,7 +29,7 @@ event_of-event-requires c =
 
 pub reply_of-reply-requires : goal.reply_of-reply-requires
 reply_of-reply-requires c =
-    let w : FirstWorldValue = record { scenario = c.self.inside.scenario; position = c.self.inside.position; host = c.self.inside.host; device = c.self.inside.device; commits = c.self.inside.commits; log = c.self.inside.log } in
+    let w : FirstWorldValue = record { scenario = c.self.inside.scenario; position = c.self.inside.position; host = c.self.inside.host; device = c.self.inside.device.sectors; commits = c.self.inside.commits; log = c.self.inside.log; room = min c.self.inside.log.spare c.self.inside.device.spare } in
     let h : FirstHolds w = c.self.invariant in
     let call = c.requires.reading.0 in
     let stage : w.host.stage ≡ Reading call = ap (λ (v : FirstWorldValue). v.host.stage) c.self.view_is ∙ c.requires.reading.1 in
@@ -36,7 +37,7 @@ reply_of-reply-requires c =
 
 pub invariant_of-self : goal.invariant_of-self
 invariant_of-self c =
-    let w : FirstWorldValue = record { scenario = c.self.inside.scenario; position = c.self.inside.position; host = c.self.inside.host; device = c.self.inside.device; commits = c.self.inside.commits; log = c.self.inside.log } in
+    let w : FirstWorldValue = record { scenario = c.self.inside.scenario; position = c.self.inside.position; host = c.self.inside.host; device = c.self.inside.device.sectors; commits = c.self.inside.commits; log = c.self.inside.log; room = min c.self.inside.log.spare c.self.inside.device.spare } in
     let h : FirstHolds w = c.self.invariant in
     let call = c.requires.reading.0 in
     let stage : w.host.stage ≡ Reading call = ap (λ (v : FirstWorldValue). v.host.stage) c.self.view_is ∙ c.requires.reading.1 in
@@ -56,7 +57,7 @@ invariant_of-self c =
 
 pub invariant_of-self-in-None : goal.invariant_of-self-in-None
 invariant_of-self-in-None c =
-    let w : FirstWorldValue = record { scenario = c.self.inside.scenario; position = c.self.inside.position; host = c.self.inside.host; device = c.self.inside.device; commits = c.self.inside.commits; log = c.self.inside.log } in
+    let w : FirstWorldValue = record { scenario = c.self.inside.scenario; position = c.self.inside.position; host = c.self.inside.host; device = c.self.inside.device.sectors; commits = c.self.inside.commits; log = c.self.inside.log; room = min c.self.inside.log.spare c.self.inside.device.spare } in
     let h : FirstHolds w = c.self.invariant in
     let call = c.requires.reading.0 in
     let stage : w.host.stage ≡ Reading call = ap (λ (v : FirstWorldValue). v.host.stage) c.self.view_is ∙ c.requires.reading.1 in
@@ -73,7 +74,7 @@ invariant_of-self-in-None c =
 
 pub returns-in-Some : goal.returns-in-Some
 returns-in-Some c =
-    let w : FirstWorldValue = record { scenario = c.self.inside.scenario; position = c.self.inside.position; host = c.self.inside.host; device = c.self.inside.device; commits = c.self.inside.commits; log = c.self.inside.log } in
+    let w : FirstWorldValue = record { scenario = c.self.inside.scenario; position = c.self.inside.position; host = c.self.inside.host; device = c.self.inside.device.sectors; commits = c.self.inside.commits; log = c.self.inside.log; room = min c.self.inside.log.spare c.self.inside.device.spare } in
     let h : FirstHolds w = c.self.invariant in
     let call = c.requires.reading.0 in
     let stage : w.host.stage ≡ Reading call = ap (λ (v : FirstWorldValue). v.host.stage) c.self.view_is ∙ c.requires.reading.1 in
@@ -88,7 +89,7 @@ returns-in-Some c =
     c.reply_of-reply.ensures ∙ (λ i. record { event = c.len.ensures i; host = 0; directive = w.position + 1; answer = a; place = place_of a w.commits }) in
     let events : c.add_answered.new.self.events ≡ w.log.events ++ sent_event w (Read 0) response false ∷ [] =
     c.add_answered.ensures.events ∙ ap (λ (e : Event). w.log.events ++ e ∷ []) event in
-    let after : FirstWorldValue = record { scenario = w.scenario; position = w.position + 1; host = new; device = c.send-response.new.lun; commits = w.commits; log = c.add_answered.new.self } in
+    let after : FirstWorldValue = record { scenario = w.scenario; position = w.position + 1; host = new; device = c.send-response.new.lun.sectors; commits = w.commits; log = c.add_answered.new.self; room = min c.add_answered.new.self.spare c.send-response.new.lun.spare } in
     let P : FirstWorldValue → Type 0 = λ v. AddsEvent v after in
     subst P c.self.view_is (record {
       was_due = was_due w h call stage;
@@ -101,7 +102,7 @@ returns-in-Some c =
 
 pub returns-in-None : goal.returns-in-None
 returns-in-None c =
-    let w : FirstWorldValue = record { scenario = c.self.inside.scenario; position = c.self.inside.position; host = c.self.inside.host; device = c.self.inside.device; commits = c.self.inside.commits; log = c.self.inside.log } in
+    let w : FirstWorldValue = record { scenario = c.self.inside.scenario; position = c.self.inside.position; host = c.self.inside.host; device = c.self.inside.device.sectors; commits = c.self.inside.commits; log = c.self.inside.log; room = min c.self.inside.log.spare c.self.inside.device.spare } in
     let h : FirstHolds w = c.self.invariant in
     let call = c.requires.reading.0 in
     let stage : w.host.stage ≡ Reading call = ap (λ (v : FirstWorldValue). v.host.stage) c.self.view_is ∙ c.requires.reading.1 in
@@ -113,7 +114,7 @@ returns-in-None c =
     let is : GoesOn w response new = subst (λ (x : Option HostAnswer). IsRead w response new x) c.in-None.is moved in
     let events : c.add.new.self.events ≡ w.log.events ++ sent_event w (Read 0) response false ∷ [] =
     c.add.ensures.events ∙ ap (λ (e : Event). w.log.events ++ e ∷ []) event in
-    let after : FirstWorldValue = record { scenario = w.scenario; position = w.position; host = new; device = c.send-response.new.lun; commits = w.commits; log = c.add.new.self } in
+    let after : FirstWorldValue = record { scenario = w.scenario; position = w.position; host = new; device = c.send-response.new.lun.sectors; commits = w.commits; log = c.add.new.self; room = min c.add.new.self.spare c.send-response.new.lun.spare } in
     let P : FirstWorldValue → Type 0 = λ v. AddsEvent v after in
     subst P c.self.view_is (record {
       was_due = was_due w h call stage;

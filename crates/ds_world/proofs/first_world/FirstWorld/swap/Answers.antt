@@ -1,3 +1,4 @@
+use Rattle.std.specs.Prelude.{min}
 use Rattle.std.proofs.Common.{inr, ◌≡◌, ◌+◌, ◌++◌, ◌∷◌, [], true, false, length, refl, sym, ap, subst, ◌∙◌, arith, Option}
 use Rattle.ds_base.specs.declared.commands.Command.TheVariants.{Swap}
 use Rattle.ds_host.specs.declared.answers.HostAnswer.{HostAnswer}
@@ -14,21 +15,21 @@ use Rattle.ds_world.proofs.first_world.FirstWorld.swap.Goals as goal
 
 pub event_of-event-requires : goal.event_of-event-requires
 event_of-event-requires c =
-    let w : FirstWorldValue = record { scenario = c.self.inside.scenario; position = c.self.inside.position; host = c.self.inside.host; device = c.self.inside.device; commits = c.self.inside.commits; log = c.self.inside.log } in
+    let w : FirstWorldValue = record { scenario = c.self.inside.scenario; position = c.self.inside.position; host = c.self.inside.host; device = c.self.inside.device.sectors; commits = c.self.inside.commits; log = c.self.inside.log; room = min c.self.inside.log.spare c.self.inside.device.spare } in
     let h : FirstHolds w = c.self.invariant in
     let stage : w.host.stage ≡ Filling c.requires.swapping.0 c.requires.swapping.1.0 c.requires.swapping.1.1.0 c.requires.swapping.1.1.1.0 = ap (λ (v : FirstWorldValue). v.host.stage) c.self.view_is ∙ c.requires.swapping.1.1.1.1 in
     omega (arith, was_due_filling w h c.requires.swapping.0 c.requires.swapping.1.0 c.requires.swapping.1.1.0 c.requires.swapping.1.1.1.0 stage, short_list w h)
 
 pub reply_of-reply-requires : goal.reply_of-reply-requires
 reply_of-reply-requires c =
-    let w : FirstWorldValue = record { scenario = c.self.inside.scenario; position = c.self.inside.position; host = c.self.inside.host; device = c.self.inside.device; commits = c.self.inside.commits; log = c.self.inside.log } in
+    let w : FirstWorldValue = record { scenario = c.self.inside.scenario; position = c.self.inside.position; host = c.self.inside.host; device = c.self.inside.device.sectors; commits = c.self.inside.commits; log = c.self.inside.log; room = min c.self.inside.log.spare c.self.inside.device.spare } in
     let h : FirstHolds w = c.self.invariant in
     let stage : w.host.stage ≡ Filling c.requires.swapping.0 c.requires.swapping.1.0 c.requires.swapping.1.1.0 c.requires.swapping.1.1.1.0 = ap (λ (v : FirstWorldValue). v.host.stage) c.self.view_is ∙ c.requires.swapping.1.1.1.1 in
     omega (arith, was_due_filling w h c.requires.swapping.0 c.requires.swapping.1.0 c.requires.swapping.1.1.0 c.requires.swapping.1.1.1.0 stage, short_list w h)
 
 pub invariant_of-self : goal.invariant_of-self
 invariant_of-self c =
-    let w : FirstWorldValue = record { scenario = c.self.inside.scenario; position = c.self.inside.position; host = c.self.inside.host; device = c.self.inside.device; commits = c.self.inside.commits; log = c.self.inside.log } in
+    let w : FirstWorldValue = record { scenario = c.self.inside.scenario; position = c.self.inside.position; host = c.self.inside.host; device = c.self.inside.device.sectors; commits = c.self.inside.commits; log = c.self.inside.log; room = min c.self.inside.log.spare c.self.inside.device.spare } in
     let h : FirstHolds w = c.self.invariant in
     let name = c.requires.swapping.0 in
     let key = c.requires.swapping.1.0 in
@@ -49,14 +50,14 @@ invariant_of-self c =
     c.reply_of-reply.ensures ∙ (λ i. record { event = c.len.ensures i; host = 0; directive = w.position + 1; answer = answer; place = place_of answer (w.commits + 1) }) in
     let events : c.add_answered.new.self.events ≡ w.log.events ++ sent_event w (Swap 0 verify fresh) response true ∷ [] =
     c.add_answered.ensures.events ∙ ap (λ (e : Event). w.log.events ++ e ∷ []) event in
-    let device : c.send-response.new.lun ≡ stored w.device (Swap 0 verify fresh) = c.send-response.ensures.stored ∙ ap (stored w.device) command in
+    let device : c.send-response.new.lun.sectors ≡ stored w.device (Swap 0 verify fresh) = c.send-response.ensures.stored ∙ ap (stored w.device) command in
     FirstHolds-as (stepped w (w.position + 1) new (stored w.device (Swap 0 verify fresh)) (w.commits + 1) (w.log.events ++ sent_event w (Swap 0 verify fresh) response true ∷ [])
     (w.log.replies ++ reply_now w answer (place_of answer (w.commits + 1)) ∷ [])) _
     refl refl refl (sym device) refl (sym events) (sym (c.add_answered.ensures.replies ∙ ap (λ (r : Reply). w.log.replies ++ r ∷ []) reply)) is.holds
 
 pub returns : goal.returns
 returns c =
-    let w : FirstWorldValue = record { scenario = c.self.inside.scenario; position = c.self.inside.position; host = c.self.inside.host; device = c.self.inside.device; commits = c.self.inside.commits; log = c.self.inside.log } in
+    let w : FirstWorldValue = record { scenario = c.self.inside.scenario; position = c.self.inside.position; host = c.self.inside.host; device = c.self.inside.device.sectors; commits = c.self.inside.commits; log = c.self.inside.log; room = min c.self.inside.log.spare c.self.inside.device.spare } in
     let h : FirstHolds w = c.self.invariant in
     let name = c.requires.swapping.0 in
     let key = c.requires.swapping.1.0 in
@@ -77,8 +78,8 @@ returns c =
     c.reply_of-reply.ensures ∙ (λ i. record { event = c.len.ensures i; host = 0; directive = w.position + 1; answer = answer; place = place_of answer (w.commits + 1) }) in
     let events : c.add_answered.new.self.events ≡ w.log.events ++ sent_event w (Swap 0 verify fresh) response true ∷ [] =
     c.add_answered.ensures.events ∙ ap (λ (e : Event). w.log.events ++ e ∷ []) event in
-    let device : c.send-response.new.lun ≡ stored w.device (Swap 0 verify fresh) = c.send-response.ensures.stored ∙ ap (stored w.device) command in
-    let after : FirstWorldValue = record { scenario = w.scenario; position = w.position + 1; host = new; device = c.send-response.new.lun; commits = w.commits + 1; log = c.add_answered.new.self } in
+    let device : c.send-response.new.lun.sectors ≡ stored w.device (Swap 0 verify fresh) = c.send-response.ensures.stored ∙ ap (stored w.device) command in
+    let after : FirstWorldValue = record { scenario = w.scenario; position = w.position + 1; host = new; device = c.send-response.new.lun.sectors; commits = w.commits + 1; log = c.add_answered.new.self; room = min c.add_answered.new.self.spare c.send-response.new.lun.spare } in
     let P : FirstWorldValue → Type 0 = λ v. AddsEvent v after in
     let due = was_due_filling w h name key verify fresh stage in
     subst P c.self.view_is (record {

@@ -1,3 +1,4 @@
+use Rattle.std.specs.Prelude.{min}
 use Rattle.std.proofs.Common.{◌≡◌, List, subst, Some}
 use Rattle.std.specs.Prelude.{slice_get}
 use Rattle.ds_tree.specs.Nodes.{FileTree}
@@ -13,7 +14,7 @@ use Rattle.ds_world.proofs.first_world.FirstWorld.tree.Goals as goal
 
 pub tree_of_block-requires-clause-numbered : goal.tree_of_block-requires-clause-numbered
 tree_of_block-requires-clause-numbered c =
-    let w : FirstWorldValue = record { scenario = c.self.inside.scenario; position = c.self.inside.position; host = c.self.inside.host; device = c.self.inside.device; commits = c.self.inside.commits; log = c.self.inside.log } in
+    let w : FirstWorldValue = record { scenario = c.self.inside.scenario; position = c.self.inside.position; host = c.self.inside.host; device = c.self.inside.device.sectors; commits = c.self.inside.commits; log = c.self.inside.log; room = min c.self.inside.log.spare c.self.inside.device.spare } in
     let h : FirstHolds w = c.self.invariant in
     let block = c.block_of-block.result in
     let sector = c.block_of-block.ensures.0 in
@@ -23,7 +24,7 @@ tree_of_block-requires-clause-numbered c =
 
 pub tree_of_block-requires-clause-rules : goal.tree_of_block-requires-clause-rules
 tree_of_block-requires-clause-rules c =
-    let w : FirstWorldValue = record { scenario = c.self.inside.scenario; position = c.self.inside.position; host = c.self.inside.host; device = c.self.inside.device; commits = c.self.inside.commits; log = c.self.inside.log } in
+    let w : FirstWorldValue = record { scenario = c.self.inside.scenario; position = c.self.inside.position; host = c.self.inside.host; device = c.self.inside.device.sectors; commits = c.self.inside.commits; log = c.self.inside.log; room = min c.self.inside.log.spare c.self.inside.device.spare } in
     let h : FirstHolds w = c.self.invariant in
     let block = c.block_of-block.result in
     let sector = c.block_of-block.ensures.0 in
@@ -33,7 +34,7 @@ tree_of_block-requires-clause-rules c =
 
 pub returns : goal.returns
 returns c =
-    let w : FirstWorldValue = record { scenario = c.self.inside.scenario; position = c.self.inside.position; host = c.self.inside.host; device = c.self.inside.device; commits = c.self.inside.commits; log = c.self.inside.log } in
+    let w : FirstWorldValue = record { scenario = c.self.inside.scenario; position = c.self.inside.position; host = c.self.inside.host; device = c.self.inside.device.sectors; commits = c.self.inside.commits; log = c.self.inside.log; room = min c.self.inside.log.spare c.self.inside.device.spare } in
     let h : FirstHolds w = c.self.invariant in
     let block = c.block_of-block.result in
     let sector = c.block_of-block.ensures.0 in
