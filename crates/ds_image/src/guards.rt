@@ -13,7 +13,7 @@ ghost use Rattle.ds_image.specs.Readings.{SpellsBody, Reads};
 use crate::images::Image;
 use crate::listings::{ptrs_of, subs_of};
 use crate::stores::Store;
-use ds_base::{Geom, Kind, NodeKind, ObjNo, SectorNo};
+use ds_base::{FIRST_CLUSTER_LOCK, Geom, Kind, NodeKind, ObjNo, SectorNo};
 use ds_fd::Body;
 use ds_layout::{Place, place_of, sector_of};
 
@@ -34,7 +34,7 @@ fn guard_of<S: Store>(image: &Image<S>, place: &Place) -> Option<ObjNo>
 {
     match *place {
         Place::Body(object) => Some(object),
-        Place::Bitmap { kind, cluster } => Some(cluster_lock(kind, u32::from(cluster))),
+        Place::Bitmap { kind, cluster } => Some(cluster_lock(kind, cluster)),
         Place::SubBlock(n) => {
             let cluster = lock_of_item(image.geom(), Kind::Sb, n);
             Some(lister_or(image, NodeKind::Dir, n, cluster))
@@ -54,15 +54,15 @@ fn lock_of_item(geom: &Geom, kind: Kind, n: u32) -> ObjNo
     requires inside { n < items_of geom.now kind }
     ensures { result ≡ cluster_lock kind (n / per_cluster geom.now kind) }
 {
-    cluster_lock(kind, n / u32::from(geom.items[kind as usize]))
+    let cluster = n / u32::from(geom.items_per_cluster(kind));
+    cluster_lock(kind, cluster as u8)
 }
 
 /// The lock object that a cluster is.
-fn cluster_lock(kind: Kind, cluster: u32) -> ObjNo
-    requires { cluster ≤ 30720 }
+pub fn cluster_lock(kind: Kind, cluster: u8) -> ObjNo
     ensures { result ≡ cluster_lock kind cluster }
 {
-    2048 + 8 * (kind as u32) + cluster
+    FIRST_CLUSTER_LOCK + 8 * (kind as u32) + u32::from(cluster)
 }
 
 /// The least descriptor of the kind that lists the item, or else this cluster.
@@ -70,19 +70,12 @@ fn lister_or<S: Store>(image: &Image<S>, kind: NodeKind, n: u32, cluster: ObjNo)
     ensures { (p : Parts) → Reads image.now.geom (slice_get image.now.sectors) p
         → result ≡ lister_or (listed_lists kind p) n cluster }
 {
-    for object in 0..descriptors(image.geom()) {
+    for object in 0..image.geom().items(Kind::Fd) {
         if lists(image, kind, object, n) {
             return object;
         }
     }
     cluster
-}
-
-/// The number of descriptors.
-fn descriptors(geom: &Geom) -> u32
-    ensures { result ≡ items_of geom.now Kind.Fd }
-{
-    u32::from(geom.clusters[0]) * u32::from(geom.items[0])
 }
 
 /// Whether a descriptor is of the kind and lists the item.

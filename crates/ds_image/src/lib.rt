@@ -32,7 +32,7 @@ mod users;
 
 pub use asks::Ask;
 pub use formatting::format;
-pub use guards::guard;
+pub use guards::{cluster_lock, guard};
 pub use images::{Image, ImageFault};
 pub use listings::{addresses_in, blocks_of, pointer_blocks, ptrs_of, subs_of};
 pub use logical::overlay;
