@@ -12,7 +12,7 @@ ghost use Rattle.ds_image.specs.SoundObjects.{AreNamesApart};
 ghost use Rattle.ds_tree.specs.Nodes.{Dir, node_at, with_object};
 ghost use Rattle.ds_tree.specs.WellFormed.{IsTree};
 
-use crate::listings::{blocks_of, copy_of_name, entries_in, subs_of};
+use crate::listings::{blocks_of, entries_in, subs_of};
 use crate::parts::PartsInMemory;
 use crate::stores::Store;
 use ds_base::{Geom, Key, NoMemory, NodeKind, ObjNo};
@@ -91,7 +91,7 @@ fn put_dir<S: Store>(
     builder.put_dir(key, rooms);
     let entries = entries_in(alloc, parts, subs)?;
     for entry in &entries {
-        builder.put_entry(key.object, copy_of_name(&entry.name)?, entry.key.object)?;
+        builder.put_entry(key.object, entry.name.copy(), entry.key.object)?;
     }
     Ok(())
 }

@@ -28,11 +28,9 @@ pub fn format(alloc: Global, geom: &Geom, volume: Uuid) -> Result<Vec<Sector>, N
         → StandsFor geom.now image (fresh_tree geom.now)) }
 {
     let count = total(geom);
-    let mut sectors = Vec::with_capacity(alloc, count as usize).map_err(|_| NoMemory)?;
+    let mut sectors = Vec::with_capacity(alloc, count as usize)?;
     for at in 0..count {
-        sectors
-            .push(sector_numbered(geom, volume, at))
-            .map_err(|_| NoMemory)?;
+        sectors.push(sector_numbered(geom, volume, at))?;
     }
     Ok(sectors)
 }

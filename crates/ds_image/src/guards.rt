@@ -54,7 +54,7 @@ fn lock_of_item(geom: &Geom, kind: Kind, n: u32) -> ObjNo
     requires inside { n < items_of geom.now kind }
     ensures { result ≡ cluster_lock kind (n / per_cluster geom.now kind) }
 {
-    let cluster = n / u32::from(geom.items[kind as usize]);
+    let cluster = n / u32::from(geom.items_per_cluster(kind));
     cluster_lock(kind, cluster as u8)
 }
 
@@ -63,19 +63,12 @@ fn lister_or<S: Store>(image: &Image<S>, kind: NodeKind, n: u32, cluster: ObjNo)
     ensures { (p : Parts) → ReadsParts image.now.geom (slice_get image.now.sectors) p
         → result ≡ lister_or (listed_lists kind p) n cluster }
 {
-    for object in 0..descriptors(image.geom()) {
+    for object in 0..image.geom().items(Kind::Fd) {
         if lists(image, kind, object, n) {
             return object;
         }
     }
     cluster
-}
-
-/// The number of descriptors.
-fn descriptors(geom: &Geom) -> u32
-    ensures { result ≡ items_of geom.now Kind.Fd }
-{
-    u32::from(geom.clusters[0]) * u32::from(geom.items[0])
 }
 
 /// Whether a descriptor is of the kind and lists the item.

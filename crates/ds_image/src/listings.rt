@@ -8,7 +8,7 @@ ghost use Rattle.ds_image.specs.Listings.{named_by, listed_by};
 
 use crate::parts::PartsInMemory;
 use crate::stores::Store;
-use ds_base::{Name, NoMemory, NodeKind};
+use ds_base::{ADDRESSES, NoMemory, NodeKind, PAGE};
 use ds_dir::{Entry, SubBlock};
 use ds_fd::Body;
 use ds_ptr::PtrBlock;
@@ -44,7 +44,7 @@ pub(crate) fn list_of<S: Store>(
 fn copied(alloc: Global, items: &[u32]) -> Result<Vec<u32>, NoMemory>
     ensures { IfOk result (λ v. v.items ≡ items.now) }
 {
-    items.to_vec(alloc).map_err(|_| NoMemory)
+    Ok(items.to_vec(alloc)?)
 }
 
 /// The first numbers of a list; all, where there are fewer.
@@ -87,10 +87,10 @@ pub fn ptrs_of(body: &Option<Body>) -> &[u32]
 pub fn pointer_blocks(count: u32) -> u32
     ensures { result ≡ pointer_blocks count }
 {
-    if count <= 96 {
+    if count <= ADDRESSES {
         return 0;
     }
-    count.div_ceil(128)
+    count.div_ceil(PAGE)
 }
 
 /// The addresses in pointer blocks, one block after another.
@@ -104,9 +104,7 @@ pub(crate) fn pointed_by<S: Store>(
     let mut addresses = Vec::new(alloc);
     for number in ptrs {
         let block = parts.ptr(*number);
-        addresses
-            .extend_from_slice(addresses_in(&block))
-            .map_err(|_| NoMemory)?;
+        addresses.extend_from_slice(addresses_in(&block))?;
     }
     Ok(addresses)
 }
@@ -136,7 +134,7 @@ pub fn blocks_of<S: Store>(
         return Ok(Vec::new(alloc));
     }
     let count = it.count as usize;
-    if it.count <= 96 {
+    if it.count <= ADDRESSES {
         return copied(alloc, first(&it.addresses, count));
     }
     let mut blocks = pointed_by(alloc, parts, ptrs_of(body))?;
@@ -153,11 +151,7 @@ fn named_by<S: Store>(
     ensures { IfOk result (λ v. v.items ≡ named_by parts.now body.now) }
 {
     let entries = entries_in(alloc, parts, subs_of(body))?;
-    entries
-        .iter()
-        .map(|e| e.key.object)
-        .collect(alloc)
-        .map_err(|_| NoMemory)
+    Ok(entries.iter().map(|e| e.key.object).collect(alloc)?)
 }
 
 /// The entries in the used rooms of sub-blocks.
@@ -191,7 +185,7 @@ fn push_entries(entries: &mut Vec<Entry>, rooms: &[Option<Entry>]) -> Result<(),
 {
     for room in rooms {
         if let Some(entry) = room {
-            entries.push(copy_of(entry)?).map_err(|_| NoMemory)?;
+            entries.push(copy_of(entry)?)?;
         }
     }
     Ok(())
@@ -200,11 +194,5 @@ fn push_entries(entries: &mut Vec<Entry>, rooms: &[Option<Entry>]) -> Result<(),
 fn copy_of(entry: &Entry) -> Result<Entry, NoMemory>
     ensures { IfOk result (λ copy. copy ≡ entry.now) }
 {
-    entry.clone().map_err(|_| NoMemory)
-}
-
-pub(crate) fn copy_of_name(name: &Name) -> Result<Name, NoMemory>
-    ensures { IfOk result (λ copy. copy ≡ name.now) }
-{
-    name.clone().map_err(|_| NoMemory)
+    Ok(entry.clone()?)
 }

@@ -172,7 +172,7 @@ fn lay_journal<S: Store>(
             index: i as u8,
         };
         let sector = block_at(store, sector_of(geom, &place));
-        pending.insert(*target, sector).map_err(|_| NoMemory)?;
+        pending.insert(*target, sector)?;
     }
     Ok(())
 }

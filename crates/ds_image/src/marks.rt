@@ -49,7 +49,7 @@ impl Marks {
     pub fn new(alloc: Global, count: u32) -> Result<Marks, NoMemory>
         ensures { IfOk result (λ marks. marks ≡ replicate count false) }
     {
-        let marked = vec![in alloc; false; count as usize].map_err(|_| NoMemory)?;
+        let marked = vec![in alloc; false; count as usize]?;
         Ok(Marks { marked })
     }
 

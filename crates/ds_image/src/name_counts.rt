@@ -44,7 +44,7 @@ impl NameCounts {
         ensures unnamed { IfOk result (λ table. table ≡ replicate count 0) }
         ensures counts { IfOk result (λ table. CountsNames table []) }
     {
-        let counts = vec![in alloc; 0; count as usize].map_err(|_| NoMemory)?;
+        let counts = vec![in alloc; 0; count as usize]?;
         Ok(NameCounts { counts })
     }
 

@@ -39,8 +39,7 @@ pub fn bits_in(alloc: Global, maps: &[Option<Bits>]) -> Result<Vec<bool>, NoMemo
 {
     let mut bits = Vec::new(alloc);
     for map in maps {
-        bits.extend_from_slice(used_bits(map))
-            .map_err(|_| NoMemory)?;
+        bits.extend_from_slice(used_bits(map))?;
     }
     Ok(bits)
 }

@@ -56,10 +56,10 @@ fn walks(
 {
     seen[0] = Some(0);
     let mut leads = Vec::new(alloc);
-    leads.push(true).map_err(|_| NoMemory)?;
+    leads.push(true)?;
     for start in 1..parents.len() {
         let led = next_walk(parents, seen, &leads);
-        leads.push(led).map_err(|_| NoMemory)?;
+        leads.push(led)?;
     }
     Ok(leads)
 }
@@ -127,7 +127,7 @@ fn reached_by(alloc: Global, seen: &[Option<usize>], leads: &[bool]) -> Result<V
 {
     let mut reached = Vec::new(alloc);
     for walk in seen {
-        reached.push(led_by(leads, *walk)).map_err(|_| NoMemory)?;
+        reached.push(led_by(leads, *walk))?;
     }
     Ok(reached)
 }

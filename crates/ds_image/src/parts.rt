@@ -9,7 +9,7 @@ ghost use Rattle.ds_image.specs.Readings.{SpellsBody, SpellsBits, SpellsSub, Spe
 
 use crate::images::Image;
 use crate::stores::Store;
-use ds_base::{Geom, Kind, NoMemory, ObjNo};
+use ds_base::{Kind, NoMemory, ObjNo};
 use ds_bitmap::Bits;
 use ds_dir::SubBlock;
 use ds_fd::Body;
@@ -93,7 +93,7 @@ impl<'a, S: Store> PartsInMemory<'a, S> {
         ensures { result ≡ part_at self.now.subs number }
     {
         let image = self.image;
-        if number < items_of_kind(image.geom(), Kind::Sb) {
+        if number < image.geom().items(Kind::Sb) {
             sub_of(image, number)
         } else {
             None
@@ -105,7 +105,7 @@ impl<'a, S: Store> PartsInMemory<'a, S> {
         ensures { result ≡ part_at self.now.ptrs number }
     {
         let image = self.image;
-        if number < items_of_kind(image.geom(), Kind::Pb) {
+        if number < image.geom().items(Kind::Pb) {
             ptr_of(image, number)
         } else {
             None
@@ -117,10 +117,10 @@ fn bodies_of<S: Store>(alloc: Global, image: &Image<S>) -> Result<Vec<Option<Bod
     ensures { IfOk result (λ v. IsReading (items_of image.now.geom kinds.Fd)
         (SpellsBody image.now.geom (slice_get image.now.sectors)) v.items) }
 {
-    let count = items_of_kind(image.geom(), Kind::Fd);
-    let mut bodies = Vec::with_capacity(alloc, count as usize).map_err(|_| NoMemory)?;
+    let count = image.geom().items(Kind::Fd);
+    let mut bodies = Vec::with_capacity(alloc, count as usize)?;
     for object in 0..count {
-        bodies.push(body_of(image, object)).map_err(|_| NoMemory)?;
+        bodies.push(body_of(image, object))?;
     }
     Ok(bodies)
 }
@@ -133,11 +133,10 @@ fn maps_of<S: Store>(
     ensures { IfOk result (λ v. IsReading (clusters_of image.now.geom kind)
         (SpellsBits image.now.geom (slice_get image.now.sectors) kind) v.items) }
 {
-    let count = clusters_of_kind(image.geom(), kind);
-    let mut maps = Vec::with_capacity(alloc, usize::from(count)).map_err(|_| NoMemory)?;
+    let count = image.geom().clusters(kind);
+    let mut maps = Vec::with_capacity(alloc, usize::from(count))?;
     for cluster in 0..count {
-        maps.push(bits_of(image, kind, cluster))
-            .map_err(|_| NoMemory)?;
+        maps.push(bits_of(image, kind, cluster))?;
     }
     Ok(maps)
 }
@@ -179,17 +178,4 @@ fn ptr_of<S: Store>(image: &Image<S>, number: u32) -> Option<PtrBlock>
 {
     let sector = image.sector_at(&Place::PtrBlock(number));
     Some(PtrBlock::decode(&sector))
-}
-
-fn clusters_of_kind(geom: &Geom, kind: Kind) -> u8
-    ensures { result ≡ clusters_of geom.now kind }
-{
-    geom.clusters[kind as usize]
-}
-
-/// All items of a kind.
-fn items_of_kind(geom: &Geom, kind: Kind) -> u32
-    ensures { result ≡ items_of geom.now kind }
-{
-    u32::from(geom.clusters[kind as usize]) * u32::from(geom.items[kind as usize])
 }

@@ -32,8 +32,8 @@ impl Seen {
         ensures locks { IfOk result (λ seen. seen.locks ≡ []) }
         ensures sectors { IfOk result (λ seen. seen.sectors ≡ []) }
     {
-        let locks = Vec::with_capacity(alloc, 64).map_err(|_| NoMemory)?;
-        let sectors = Vec::with_capacity(alloc, 256).map_err(|_| NoMemory)?;
+        let locks = Vec::with_capacity(alloc, 64)?;
+        let sectors = Vec::with_capacity(alloc, 256)?;
         Ok(Seen { locks, sectors })
     }
 

@@ -4,7 +4,7 @@ ghost use Rattle.ds_image.specs.Parts.{part_at};
 ghost use Rattle.ds_image.specs.Sound.{IsNamedRight, AreZero};
 ghost use Rattle.ds_image.specs.SoundObjects.{AreNamesApart, count_in, IsSoundObject};
 
-use crate::listings::{copy_of_name, entries_in, pointed_by, ptrs_of, subs_of};
+use crate::listings::{entries_in, pointed_by, ptrs_of, subs_of};
 use crate::parts::PartsInMemory;
 use crate::stores::Store;
 use ds_base::NoMemory;
@@ -126,8 +126,8 @@ fn are_names_apart(alloc: Global, entries: &[Entry]) -> Result<bool, NoMemory>
 {
     let mut names = BTreeSet::new(alloc);
     for entry in entries {
-        let name = copy_of_name(&entry.name)?;
-        if !names.insert(name).map_err(|_| NoMemory)? {
+        let name = entry.name.copy();
+        if !names.insert(name)? {
             return Ok(false);
         }
     }

@@ -64,7 +64,7 @@ pub(crate) fn used_of(alloc: Global, bodies: &[Option<Body>]) -> Result<Vec<bool
 {
     let mut used = Vec::new(alloc);
     for body in bodies {
-        used.push(is_used(body)).map_err(|_| NoMemory)?;
+        used.push(is_used(body))?;
     }
     Ok(used)
 }

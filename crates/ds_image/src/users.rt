@@ -124,7 +124,7 @@ impl Users {
     {
         let mut firsts = Vec::new(alloc);
         for row in &self.rows {
-            firsts.push(row.first()).map_err(|_| NoMemory)?;
+            firsts.push(row.first())?;
         }
         Ok(firsts)
     }

@@ -10,7 +10,7 @@ ghost use Rattle.ds_image.specs.SeenValues.{IsSeen, look_of};
 ghost use Rattle.ds_plan_base.specs.Bodies.{body_of_key, dir_of_key, body_seen, body_of_dir, sub_seen, body_alive};
 
 use crate::stops::{Ending, Stop};
-use ds_base::{Geom, Key, NodeKind, ObjNo};
+use ds_base::{Geom, Key, Kind, NodeKind, ObjNo};
 use ds_dir::SubBlock;
 use ds_fd::Body;
 use ds_image::Seen;
@@ -24,7 +24,7 @@ pub fn body_of_key(geom: &Geom, seen: &Seen, key: &Key) -> Result<Body, Stop>
     ensures is_body { IfOk result IsBody }
     ensures whole { IfOk result (λ _. IsSeen seen.now) }
 {
-    if key.object >= descriptors(geom) {
+    if key.object >= geom.items(Kind::Fd) {
         return Err(Stop::Done(Ending::NoObject));
     }
     if !seen.has_lock(key.object) {
@@ -51,22 +51,6 @@ pub fn dir_of_key(geom: &Geom, seen: &Seen, key: &Key) -> Result<Body, Stop>
         Some(NodeKind::Dir) => Ok(body),
         _ => Err(Stop::Done(Ending::NotDir)),
     }
-}
-
-/// The number of descriptors.
-fn descriptors(geom: &Geom) -> u32
-    requires { IsGeom geom.now }
-    ensures { result ≡ items_of geom.now Fd }
-{
-    u32::from(geom.clusters[0]) * u32::from(geom.items[0])
-}
-
-/// The number of sub-blocks.
-fn sub_blocks(geom: &Geom) -> u32
-    requires { IsGeom geom.now }
-    ensures { result ≡ items_of geom.now Sb }
-{
-    u32::from(geom.clusters[1]) * u32::from(geom.items[1])
 }
 
 /// What the sector of a descriptor's body spells.
@@ -97,7 +81,7 @@ pub fn sub_block(geom: &Geom, seen: &Seen, body: &Body, n: u32) -> Result<SubBlo
     ensures is_sub { IfOk result IsSubBlock }
     ensures within { IfOk result (λ _. n < items_of geom.now Sb) }
 {
-    if n >= sub_blocks(geom) {
+    if n >= geom.items(Kind::Sb) {
         return Err(Stop::Odd(sector_of(geom, &Place::Body(body.object))));
     }
     let at = sector_of(geom, &Place::SubBlock(n));

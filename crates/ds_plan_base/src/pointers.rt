@@ -9,7 +9,7 @@ ghost use Rattle.ds_plan_base.specs.Pointers.{pointer_seen};
 ghost use Rattle.ds_ptr.specs.PtrBlock.{IsPtrBlock};
 
 use crate::stops::Stop;
-use ds_base::Geom;
+use ds_base::{Geom, Kind};
 use ds_fd::Body;
 use ds_image::Seen;
 use ds_layout::{Place, sector_of};
@@ -24,7 +24,7 @@ pub fn pointer_block(geom: &Geom, seen: &Seen, body: &Body, n: u32) -> Result<Pt
     ensures inside { IfOk result (λ _. n < items_of geom.now Pb) }
     ensures is_block { IfOk result IsPtrBlock }
 {
-    if n >= all_pointer_blocks(geom) {
+    if n >= geom.items(Kind::Pb) {
         return Err(Stop::Odd(sector_of(geom, &Place::Body(body.object))));
     }
     let at = sector_of(geom, &Place::PtrBlock(n));
@@ -32,12 +32,4 @@ pub fn pointer_block(geom: &Geom, seen: &Seen, body: &Body, n: u32) -> Result<Pt
         return Err(Stop::Read(at));
     };
     Ok(PtrBlock::decode(sector))
-}
-
-/// The pointer blocks of the volume.
-fn all_pointer_blocks(geom: &Geom) -> u32
-    requires { IsGeom geom.now }
-    ensures { result ≡ items_of geom.now Pb }
-{
-    u32::from(geom.clusters[2]) * u32::from(geom.items[2])
 }

@@ -20,10 +20,10 @@ loop-entry-preserved _ c =
     let at : slice_get es n ≡ Some e = slice_get-get_or es n e c.loop-entry-test.true ∙ ap Some (sym c.entry-item.is) in
     let m : Entries = maps.from_entries {R = slice_cmp nat_cmp} (pairs (take n es)) in
     let more = entries-more es n e apart at c.loop-entry-test.true c.entry-item.is in
-    let put = dir-more c.args.builder.now.tree c.loop-entry.builder.tree c.put_entry.new.self.tree key.object key.birth c.args.rooms m c.in_ok-copy_of_name.field-0 e.key.object
+    let put = dir-more c.args.builder.now.tree c.loop-entry.builder.tree c.put_entry.new.self.tree key.object key.birth c.args.rooms m c.copy.result e.key.object
     c.requires.within c.loop-entry.invariant.tree c.in_ok-put_entry.ensures.ok in
-    let entries : maps.insert m c.in_ok-copy_of_name.field-0 e.key.object ≡ maps.from_entries (pairs (take (n + 1) es)) =
-    ap (λ name. maps.insert m name e.key.object) c.in_ok-copy_of_name.ensures ∙ sym more in
+    let entries : maps.insert m c.copy.result e.key.object ≡ maps.from_entries (pairs (take (n + 1) es)) =
+    ap (λ name. maps.insert m name e.key.object) c.copy.ensures.same ∙ sym more in
     record {
       geom = c.put_entry.ensures.geom ∙ c.loop-entry.invariant.geom;
       tree = put ∙ ap (λ (entries : Entries). with_object c.args.builder.now.tree key.object (record { birth = key.birth; node = Some (Dir entries c.args.rooms) })) entries;

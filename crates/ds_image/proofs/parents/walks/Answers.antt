@@ -1,4 +1,5 @@
 use Rattle.std.proofs.Common.{◌≡◌, Some, set, length, true, [], ◌∷◌, ◌++◌, sym, ap, ◌∙◌, subst}
+use Rattle.std.specs.Prelude.{is_ok}
 use Rattle.std.proofs.lemmas.Bool.{cond-true}
 use Rattle.ds_image.specs.ParentWalks.{AreSettled}
 use Rattle.ds_image.proofs.Parenthood.WalkingParents.{settled-first}
@@ -7,7 +8,7 @@ use Rattle.ds_image.proofs.parents.walks.Goals as goal
 pub loop-start-init : goal.loop-start-init
 loop-start-init c =
     let pushed : c.push.new.self.items ≡ true ∷ [] =
-    c.push.ensures.items ∙ cond-true _ _ _ (sym c.in_ok-map_err.ensures.variant) ∙ ap (λ l. l ++ true ∷ []) c.new-leads.ensures.items in (
+    c.push.ensures.items ∙ cond-true _ _ _ (ap is_ok c.in_ok-push.was) ∙ ap (λ l. l ++ true ∷ []) c.new-leads.ensures.items in (
       ap length pushed,
       subst (AreSettled c.args.parents.now (set c.args.seen.now 0 (Some 0))) (sym pushed)
           (settled-first c.args.parents.now c.args.seen.now c.requires.count c.requires.some c.requires.unseen),

@@ -12,4 +12,4 @@ loop-object-preserved _ c =
     reading-more c.loop-object.object (SpellsBody c.args.image.now.geom (slice_get c.args.image.now.sectors)) _ _ _ more c.loop-object.invariant c.body_of.ensures
 
 pub returns : goal.returns
-returns _ c = reading-all c.loop-object.object _ (SpellsBody c.args.image.now.geom (slice_get c.args.image.now.sectors)) _ (omega (arith, c.loop-object-test.false, c.loop-object.auto, ap (λ g. items_of g kinds.Fd) c.geom.ensures.value, c.items_of_kind-count.ensures)) c.loop-object.invariant
+returns _ c = reading-all c.loop-object.object _ (SpellsBody c.args.image.now.geom (slice_get c.args.image.now.sectors)) _ (omega (arith, c.loop-object-test.false, c.loop-object.auto, ap (λ g. items_of g kinds.Fd) c.geom.ensures.value, c.items-count.ensures)) c.loop-object.invariant

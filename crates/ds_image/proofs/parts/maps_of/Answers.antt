@@ -11,4 +11,4 @@ loop-cluster-preserved _ c =
     reading-more c.loop-cluster.cluster (SpellsBits c.args.image.now.geom (slice_get c.args.image.now.sectors) c.args.kind) _ _ _ more c.loop-cluster.invariant c.bits_of.ensures
 
 pub returns : goal.returns
-returns _ c = reading-all c.loop-cluster.cluster _ (SpellsBits c.args.image.now.geom (slice_get c.args.image.now.sectors) c.args.kind) _ (omega (arith, c.loop-cluster-test.false, c.loop-cluster.auto, ap (λ g. clusters_of g c.args.kind) c.geom.ensures.value, c.clusters_of_kind-count.ensures)) c.loop-cluster.invariant
+returns _ c = reading-all c.loop-cluster.cluster _ (SpellsBits c.args.image.now.geom (slice_get c.args.image.now.sectors) c.args.kind) _ (omega (arith, c.loop-cluster-test.false, c.loop-cluster.auto, ap (λ g. clusters_of g c.args.kind) c.geom.ensures.value, c.clusters-count.ensures)) c.loop-cluster.invariant

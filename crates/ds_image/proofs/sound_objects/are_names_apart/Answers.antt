@@ -24,20 +24,20 @@ loop-entry-init c = record { apart = apart-none; known = λ q. ap (list_any (is_
 
 pub returns-then-not-branch : goal.returns-then-not-branch
 returns-then-not-branch c =
-    let added : c.in_ok-map_err.field-0 ≡ not (contains (slice_cmp nat_cmp) c.loop-entry.names c.in_ok-name.name) = search rules in
-    let known : list_any (bytes_eq c.in_ok-name.name) (map (λ (e : Entry). e.name) (take c.loop-entry.entry-index c.args.entries.now)) ≡ true =
-    sym (c.loop-entry.invariant.known c.in_ok-name.name) ∙ not_false _ (sym added ∙ c.if-not-branch.true) in
+    let added : c.in_ok-insert.field-0 ≡ not (contains (slice_cmp nat_cmp) c.loop-entry.names c.copy-name.result) = search rules in
+    let known : list_any (bytes_eq c.copy-name.result) (map (λ (e : Entry). e.name) (take c.loop-entry.entry-index c.args.entries.now)) ≡ true =
+    sym (c.loop-entry.invariant.known c.copy-name.result) ∙ not_false _ (sym added ∙ c.if-not-branch.true) in
     let not_apart = apart-not c.args.entries.now c.loop-entry.entry-index c.entry-item.result c.loop-entry-test.true c.entry-item.is
-    (subst (λ q. list_any (bytes_eq q) (map (λ (e : Entry). e.name) (take c.loop-entry.entry-index c.args.entries.now)) ≡ true) c.in_ok-name.ensures known) in
+    (subst (λ q. list_any (bytes_eq q) (map (λ (e : Entry). e.name) (take c.loop-entry.entry-index c.args.entries.now)) ≡ true) c.copy-name.ensures.same known) in
     (λ wrong. absurd (false≢true wrong), λ apart. absurd (not_apart apart))
 
 pub loop-entry-preserved : goal.loop-entry-preserved
 loop-entry-preserved c =
-    let added : c.in_ok-map_err.field-0 ≡ not (contains (slice_cmp nat_cmp) c.loop-entry.names c.in_ok-name.name) = search rules in
-    let updates : Updates (slice_cmp nat_cmp) c.loop-entry.names c.insert.new.self c.in_ok-name.name true = search rules in
-    let new : list_any (bytes_eq c.in_ok-name.name) (map (λ (e : Entry). e.name) (take c.loop-entry.entry-index c.args.entries.now)) ≡ false =
-    sym (c.loop-entry.invariant.known c.in_ok-name.name) ∙ not_true _ (sym added ∙ c.if-not-branch.false) in
-    let name : c.in_ok-name.name ≡ c.entry-item.result.name = c.in_ok-name.ensures in
+    let added : c.in_ok-insert.field-0 ≡ not (contains (slice_cmp nat_cmp) c.loop-entry.names c.copy-name.result) = search rules in
+    let updates : Updates (slice_cmp nat_cmp) c.loop-entry.names c.insert.new.self c.copy-name.result true = search rules in
+    let new : list_any (bytes_eq c.copy-name.result) (map (λ (e : Entry). e.name) (take c.loop-entry.entry-index c.args.entries.now)) ≡ false =
+    sym (c.loop-entry.invariant.known c.copy-name.result) ∙ not_true _ (sym added ∙ c.if-not-branch.false) in
+    let name : c.copy-name.result ≡ c.entry-item.result.name = c.copy-name.ensures.same in
     record {
       apart = apart-more c.args.entries.now c.loop-entry.entry-index c.entry-item.result c.loop-entry-test.true c.entry-item.is
           (subst (λ q. list_any (bytes_eq q) (map (λ (e : Entry). e.name) (take c.loop-entry.entry-index c.args.entries.now)) ≡ false) name new) c.loop-entry.invariant.apart;
