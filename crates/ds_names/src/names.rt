@@ -4,9 +4,9 @@ ghost use Rattle.ds_base.specs.Geometry.{IsGeom};
 ghost use Rattle.ds_names.specs.Calls.{IsOnNames, call_of, geom_of, slot_of};
 ghost use Rattle.ds_tree.specs.CallNames.{HasNames};
 
-use ds_plan_dirs::DirReads;
 use ds_base::{Geom, SlotNo};
 use ds_image::{Ask, Plan, Seen};
+use ds_plan_dirs::DirReads;
 use ds_plan_make::Make;
 use ds_plan_remove::Remove;
 use ds_plan_rename::Rename;
