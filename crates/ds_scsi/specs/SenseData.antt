@@ -1,5 +1,5 @@
--- Sense data (SPC-4, 4.5.3 "Fixed format sense data"). That a mismatch is told by VALID and INFORMATION, and which additional
--- sense code each refusal has, is this project's profile.
+-- Sense data (SPC-4, 4.5.3 "Fixed format sense data"; the sense keys and the additional sense codes are those of its tables). That a
+-- mismatch is told with VALID and the offset of the first difference in INFORMATION is SBC-3's rule for COMPARE AND WRITE.
 use Rattle.std.specs.Prelude.{ℕ, ◌<◌, ◌^◌, List, [], ◌∷◌, ◌++◌}
 use Rattle.std.specs.Int.{w32, to_be_bytes}
 use Rattle.ds_scsi.specs.declared.sense_data.Sense.{Sense}
