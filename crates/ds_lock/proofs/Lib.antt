@@ -1,1 +1,4 @@
 pub mod Shown
+pub mod Going
+pub mod Passes
+pub mod Answering

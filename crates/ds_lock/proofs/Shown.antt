@@ -1,5 +1,5 @@
 -- What one more exchange shows, and what stays shown.
-use Rattle.std.proofs.Common.{◌≡◌, ◌≢◌, ℕ, zero, suc, ◌+◌, ◌*◌, ◌-◌, ◌/◌, ◌%◌, ◌<◌, ◌≤◌, ◌⊎◌, inl, inr, cond, true, false, List, [], ◌∷◌, ◌++◌, Some, refl, sym, ap, subst, ◌∙◌, arith}
+use Rattle.std.proofs.Common.{◌≡◌, ◌≢◌, ℕ, zero, suc, ◌+◌, ◌*◌, ◌-◌, ◌/◌, ◌%◌, ◌<◌, ◌≤◌, ◌⊎◌, inl, inr, cond, true, false, List, [], ◌∷◌, ◌++◌, Some, refl, sym, ap, subst, ◌∙◌, append_assoc, arith}
 use Rattle.std.specs.Prelude.{nat_lt}
 use Rattle.std.specs.List.{Contains}
 use Rattle.std.proofs.lemmas.Bool.{cases_Bool}
@@ -93,3 +93,60 @@ module _ (w : Wanted) (pass : List Exchange) (tick slot : ℕ) (sector : Sector)
         (slots-apart w.geom slot other differs) shown.last;
     is_slot = shown.is_slot;
   }
+
+Contains-later : (xs : List Pair) (y x : Pair) → Contains xs x → Contains (y ∷ xs) x
+Contains-later xs y x (k, within, is) = (suc k, omega (arith, within), is)
+
+Contains-first : (xs : List Pair) (y x : Pair) → y ≡ x → Contains (y ∷ xs) x
+Contains-first xs y x is = (0, omega arith, is)
+
+Contains-append : (xs ys : List Pair) (x : Pair) → Contains (xs ++ ys) x → Contains xs x ⊎ Contains ys x
+Contains-append [] ys x has = inr has
+Contains-append (y ∷ xs) ys x has = elim (Contains-cases (xs ++ ys) y x has) [
+  | inl is ↦ inl (Contains-first xs y x is)
+  | inr there ↦ elim (Contains-append xs ys x there) [
+    | inl front ↦ inl (Contains-later xs y x front)
+    | inr back ↦ inr back
+  ]
+]
+
+seen_with-append : (command : Command) (response : Response) (ps qs : List Pair) → seen_with command response (ps ++ qs) ≡ seen_with command response ps ++ qs
+seen_with-append (Read at) (Got s) ps qs = refl
+seen_with-append (Read at) Done ps qs = refl
+seen_with-append (Read at) (Miscompare o) ps qs = refl
+seen_with-append (Read at) Fault ps qs = refl
+seen_with-append (Write at f) (Got s) ps qs = refl
+seen_with-append (Write at f) Done ps qs = refl
+seen_with-append (Write at f) (Miscompare o) ps qs = refl
+seen_with-append (Write at f) Fault ps qs = refl
+seen_with-append (Swap at v f) (Got s) ps qs = refl
+seen_with-append (Swap at v f) Done ps qs = refl
+seen_with-append (Swap at v f) (Miscompare o) ps qs = refl
+seen_with-append (Swap at v f) Fault ps qs = refl
+
+seen_of-append : (xs ys : List Exchange) → seen_of (xs ++ ys) ≡ seen_of xs ++ seen_of ys
+seen_of-append [] ys = refl
+seen_of-append (x ∷ xs) ys =
+    ap (seen_with x.command x.response) (seen_of-append xs ys) ∙ seen_with-append x.command x.response (seen_of xs) (seen_of ys)
+
+-- what was shown last stays so with what came before it
+pub last-lifts : (xs ys : List Exchange) (at : ℕ) (s : Sector) → IsLast (seen_of xs) at s → IsLast (seen_of (xs ++ ys)) at s
+last-lifts xs ys at s last = record {
+  newer = last.newer;
+  older = last.older ++ seen_of ys;
+  parts = seen_of-append xs ys ∙ (ap (λ (ps : List Pair). ps ++ seen_of ys) last.parts ∙ append_assoc last.newer ((at, s) ∷ last.older) (seen_of ys));
+  newest = last.newest;
+}
+
+-- what was shown last stays so while others are shown
+pub last-stays : (xs ys : List Exchange) (at : ℕ) (s : Sector) → ((other : Sector) → Contains (seen_of xs) (at, other) → ⊥)
+    → IsLast (seen_of ys) at s → IsLast (seen_of (xs ++ ys)) at s
+last-stays xs ys at s none last = record {
+  newer = seen_of xs ++ last.newer;
+  older = last.older;
+  parts = seen_of-append xs ys ∙ (ap (λ (ps : List Pair). seen_of xs ++ ps) last.parts ∙ sym (append_assoc (seen_of xs) last.newer ((at, s) ∷ last.older)));
+  newest = λ other has. elim (Contains-append (seen_of xs) last.newer (at, other) has) [
+    | inl front ↦ none other front
+    | inr back ↦ last.newest other back
+  ];
+}

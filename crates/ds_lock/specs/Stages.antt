@@ -113,8 +113,16 @@ abbrev pub left_after : Went → ℕ
 left_after (went.On stage) = left_at stage
 left_after next = 0
 
+-- a command is due
+abbrev pub IsGoing : Stage → Type 0
+IsGoing (stages.Broken h slot s) = ⊥
+IsGoing stages.Over = ⊥
+IsGoing stage = ⊤
+
+-- what is needed there; that a break is needed is no end
 abbrev pub FitsWent : Wanted → Went → Type 0
-FitsWent w (went.On stage) = FitsStage w stage
+FitsWent w (went.On stage) = FitsStage w stage × IsGoing stage
+FitsWent w (went.Ended (ends.NeedsBreak slot s)) = ⊥
 FitsWent w (went.Ended end) = ⊤
 FitsWent w (went.Breaks h slot s) = FitsHeader w h × (h.generation < 2 ^ 62)
 FitsWent w went.Missed = ⊤
@@ -150,12 +158,6 @@ Awaits stage slot s = (h : Header) × (stage ≡ stages.Broken h slot s)
 abbrev pub StandsAfter : LockValue → List Exchange → LockEnd → Type 0
 StandsAfter run xs (ends.NeedsBreak slot s) = Awaits run.stage slot s × Agrees run xs
 StandsAfter run xs end = run.stage ≡ stages.Over
-
--- a command is due
-abbrev pub IsGoing : Stage → Type 0
-IsGoing (stages.Broken h slot s) = ⊥
-IsGoing stages.Over = ⊥
-IsGoing stage = ⊤
 
 -- where a response led
 abbrev pub Leads : LockValue → Option LockEnd → List Note → ℕ → List Exchange → Type 0
