@@ -12,7 +12,7 @@ use Rattle.ds_marks.specs.declared.header.Header.{Header}
 use Rattle.ds_marks.specs.declared.header.Owner.{Owner}
 use Rattle.ds_marks.specs.declared.slot.Slot.{Slot}
 use Rattle.ds_watch.specs.Notes.{Note}
-use Rattle.ds_lock.specs.Locking.{IsNoMiss, IsOwned, header_image, lock_sector, slot_sector, taken_from}
+use Rattle.ds_lock.specs.Locking.{IsEarlier, IsNoMiss, IsOwned, header_image, lock_sector, slot_sector, taken_from}
 use Rattle.ds_lock.specs.Stages.{Goes, GoesBy, HasSeen, due_at, noted_at, with_note}
 use Rattle.ds_lock.specs.declared.ends.LockEnd.TheVariants as ends
 use Rattle.ds_lock.specs.declared.steps.Stage.{Stage}
@@ -27,19 +27,22 @@ command_of nexts.Rest = Read 0
 command_of (nexts.Late now last) = Read 0
 
 -- what was read is no miss
-goes-by : (w : Wanted) (notes : List Note) (now : ℕ) (x : Exchange) (pass : List Exchange) (next : Went) → IsNoMiss x.response → Goes w notes now (x ∷ pass) next
+goes-by : (w : Wanted) (notes : List Note) (now : ℕ) (x : Exchange) (pass : List Exchange) (next : Went) → IsNoMiss x.response
+    → Goes w notes now (x ∷ pass) next
     → GoesBy w notes now x pass next
 goes-by w notes now x pass (went.On stage) none goes = (none, goes)
 goes-by w notes now x pass (went.Ended end) none goes = (none, goes)
 goes-by w notes now x pass (went.Breaks h slot s) none goes = (none, goes)
 goes-by w notes now x pass went.Missed none goes = absurd goes
 
-module _ (w : Wanted) (stage : Stage) (response : Response) (command : Command) (notes : List Note) (now : ℕ) (pass : List Exchange) (next : Went) where
+module _ (w : Wanted) (stage : Stage) (response : Response) (command : Command) (notes : List Note) (now : ℕ) (pass : List Exchange)
+    (next : Went) where
   abbrev From : Stage → Response → Command → Type 0
   From stage response command =
       GoesBy w (noted_at w stage response now notes) now (record { command = command; response = response; tick = now }) pass next
 
-  from : (stage' : Stage) (response' : Response) (command' : Command) → stage ≡ stage' → response ≡ response' → due_at w stage' ≡ nexts.Send command'
+  from : (stage' : Stage) (response' : Response) (command' : Command) → stage ≡ stage' → response ≡ response'
+      → due_at w stage' ≡ nexts.Send command'
       → due_at w stage ≡ nexts.Send command → From stage' response' command' → From stage response command
   from stage' response' command' e0 e1 due' due goes =
       subst (λ v. From v response command) (sym e0)
@@ -58,21 +61,35 @@ module _ (w : Wanted) (stage : Stage) (response : Response) (command : Command) 
       (goes-by w notes now (record { command = Read (lock_sector w.geom w.object); response = Got sector; tick = now }) [] next tt goes))
 
   pub owner-goes : (sector : Sector) (h : Header) (o : Owner) → stage ≡ stages.Owner h o → response ≡ Got sector
-      → (IsOwned w pass h o
-      → Goes w (with_note w o.slot sector now notes) now (record { command = Read (slot_sector w.geom o.slot); response = Got sector; tick = now } ∷ pass) next)
+      → (IsOwned w pass h o → IsEarlier w o
+      → Goes w (with_note w o.slot sector now notes) now (record {
+        command = Read (slot_sector w.geom o.slot);
+        response = Got sector;
+        tick = now;
+      } ∷ pass) next)
       → due_at w stage ≡ nexts.Send command → HasSeen w stage pass → From stage response command
   owner-goes sector h o e0 e1 goes due seen =
       from (stages.Owner h o) (Got sector) (Read (slot_sector w.geom o.slot)) e0 e1 refl due
-      (goes-by w (with_note w o.slot sector now notes) now (record { command = Read (slot_sector w.geom o.slot); response = Got sector; tick = now }) pass next tt
-      (goes (subst (λ v. HasSeen w v pass) e0 seen).0))
+      (goes-by w (with_note w o.slot sector now notes) now (record {
+        command = Read (slot_sector w.geom o.slot);
+        response = Got sector;
+        tick = now;
+      }) pass next tt
+      (goes (subst (λ v. HasSeen w v pass) e0 seen).0 (subst (λ v. HasSeen w v pass) e0 seen).2))
 
-  pub breaker-goes : (sector : Sector) (h : Header) (slot by generation : ℕ) (s : Slot) → stage ≡ stages.Breaker h slot s by generation → response ≡ Got sector
+  pub breaker-goes : (sector : Sector) (h : Header) (slot by generation : ℕ) (s : Slot) → stage ≡ stages.Breaker h slot s by generation
+      → response ≡ Got sector
       → (HasSeen w (stages.Breaker h slot s by generation) pass
-      → Goes w (with_note w by sector now notes) now (record { command = Read (slot_sector w.geom by); response = Got sector; tick = now } ∷ pass) next)
+      → Goes w (with_note w by sector now notes) now (record { command = Read (slot_sector w.geom by); response = Got sector; tick = now }
+      ∷ pass) next)
       → due_at w stage ≡ nexts.Send command → HasSeen w stage pass → From stage response command
   breaker-goes sector h slot by generation s e0 e1 goes due seen =
       from (stages.Breaker h slot s by generation) (Got sector) (Read (slot_sector w.geom by)) e0 e1 refl due
-      (goes-by w (with_note w by sector now notes) now (record { command = Read (slot_sector w.geom by); response = Got sector; tick = now }) pass next tt
+      (goes-by w (with_note w by sector now notes) now (record {
+        command = Read (slot_sector w.geom by);
+        response = Got sector;
+        tick = now;
+      }) pass next tt
       (goes (subst (λ v. HasSeen w v pass) e0 seen)))
 
 module _ (w : Wanted) (stage : Stage) (response : Response) (command : Command) (notes : List Note) (now : ℕ) (pass : List Exchange) where

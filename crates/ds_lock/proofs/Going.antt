@@ -1,5 +1,5 @@
 -- Where what was read leads.
-use Rattle.std.proofs.Common.{◌≡◌, ◌≢◌, ℕ, ◌<◌, ◌≤◌, List, [], ◌∷◌, Some, None, refl, sym, subst, arith}
+use Rattle.std.proofs.Common.{◌≡◌, ◌≢◌, ℕ, ◌<◌, List, ◌∷◌, Some, None, refl, sym, subst, arith}
 use Rattle.ds_base.specs.Exchanges.{Exchange, IsLast, seen_of}
 use Rattle.ds_base.specs.declared.commands.Command.TheVariants.{Read}
 use Rattle.ds_base.specs.declared.commands.Response.TheVariants.{Got}
@@ -13,8 +13,8 @@ use Rattle.ds_marks.specs.declared.header.Owner.{Owner}
 use Rattle.ds_marks.specs.declared.slot.Slot.{Slot}
 use Rattle.ds_marks.specs.declared.slot.SlotState.TheVariants as states
 use Rattle.ds_watch.specs.Notes.{Note}
-use Rattle.ds_lock.specs.Locking.{BadBreaker, BadHeader, BadOwner, BadOwnerSlot, BadSlot, Beyond, Behind, BreaksNothing, Empty, IsAtOdds, IsDamaged, IsOwned, IsOwnedBy, IsShown, IsSlotShown, NamesNobody, header_image, lock_sector, slot_image, slot_sector}
-use Rattle.ds_lock.specs.Stages.{FitsHeader, Goes}
+use Rattle.ds_lock.specs.Locking.{BadBreaker, BadHeader, BadOwner, BadOwnerSlot, BadSlot, BreaksNothing, Empty, IsAtOdds, IsDamaged, IsOwned, IsOwnedBy, IsShown, IsSlotShown, NamesNobody, header_image, lock_sector, slot_image, slot_sector}
+use Rattle.ds_lock.specs.Stages.{Goes}
 use Rattle.ds_lock.specs.declared.ends.LockEnd.TheVariants as ends
 use Rattle.ds_lock.specs.declared.steps.Wanted.{Wanted}
 use Rattle.ds_lock.specs.declared.steps.Went.{Went}
@@ -29,23 +29,28 @@ module _ (w : Wanted) (notes : List Note) (now : ℕ) (pass : List Exchange) whe
   damaged next at is d = subst (Goes w notes now pass) (sym is) d
 
   -- the header names nobody
-  pub bad-owner : (next : Went) (h : Header) (o : Owner) → next ≡ went.Ended (ends.Damaged (lock_sector w.geom w.object)) → h.owner ≡ Some o → NamesNobody w o
+  pub bad-owner : (next : Went) (h : Header) (o : Owner) → next ≡ went.Ended (ends.Damaged (lock_sector w.geom w.object))
+      → h.owner ≡ Some o → NamesNobody w o
       → IsShown w pass h → Goes w notes now pass next
   bad-owner next h o is owned nobody shown =
       damaged next (lock_sector w.geom w.object) is (BadOwner h o refl (record { shown = shown; owned = owned }) nobody)
 
   -- its slot is at odds
-  pub bad-slot : (next : Went) (h : Header) (o : Owner) (s : Slot) → next ≡ went.Ended (ends.Damaged (lock_sector w.geom w.object)) → IsAtOdds w o s
+  pub bad-slot : (next : Went) (h : Header) (o : Owner) (s : Slot) → next ≡ went.Ended (ends.Damaged (lock_sector w.geom w.object))
+      → IsAtOdds w o s
       → IsOwned w pass h o → IsSlotShown w pass o.slot s → Goes w notes now pass next
   bad-slot next h o s is odds owned shown = damaged next (lock_sector w.geom w.object) is (BadOwnerSlot h o s refl owned shown odds)
 
-  pub empty-slot : (next : Went) (h : Header) (slot : ℕ) (s : Slot) → next ≡ went.Ended (ends.Damaged (lock_sector w.geom w.object)) → s.state ≡ states.Free
+  pub empty-slot : (next : Went) (h : Header) (slot : ℕ) (s : Slot) → next ≡ went.Ended (ends.Damaged (lock_sector w.geom w.object))
+      → s.state ≡ states.Free
       → IsOwnedBy w pass h slot s → Goes w notes now pass next
   empty-slot next h slot s is free by =
-      bad-slot next h by.owner s is (Empty by.same_generation free) by.names (subst (λ n. IsSlotShown w pass n s) (sym by.same_slot) by.shown)
+      bad-slot next h by.owner s is (Empty by.same_generation free) by.names (subst (λ n. IsSlotShown w pass n s)
+      (sym by.same_slot) by.shown)
 
   -- the breaker is none
-  pub bad-breaker : (next : Went) (h : Header) (slot by generation : ℕ) (s : Slot) → next ≡ went.Ended (ends.Damaged (slot_sector w.geom slot))
+  pub bad-breaker : (next : Went) (h : Header) (slot by generation : ℕ) (s : Slot)
+      → next ≡ went.Ended (ends.Damaged (slot_sector w.geom slot))
       → s.state ≡ states.Breaking by generation → BreaksNothing w slot by → IsOwnedBy w pass h slot s → Goes w notes now pass next
   bad-breaker next h slot by generation s is breaking nothing owned =
       damaged next (slot_sector w.geom slot) is (BadBreaker h slot by generation s refl owned breaking nothing)
@@ -54,29 +59,40 @@ module _ (w : Wanted) (notes : List Note) (now tick : ℕ) (pass : List Exchange
   abbrev read : ℕ → List Exchange
   read at = record { command = Read at; response = Got sector; tick = tick } ∷ pass
 
-  pub no-header : (next : Went) → next ≡ went.Ended (ends.Damaged (lock_sector w.geom w.object)) → header_if_of w.object (header_in sector.bytes) ≡ None
+  pub no-header : (next : Went) → next ≡ went.Ended (ends.Damaged (lock_sector w.geom w.object))
+      → header_if_of w.object (header_in sector.bytes) ≡ None
       → Goes w notes now (read (lock_sector w.geom w.object)) next
   no-header next is none = damaged w notes now (read (lock_sector w.geom w.object)) next (lock_sector w.geom w.object) is
       (BadHeader refl (record { sector = sector; read = record { tick = tick; earlier = pass; newest = refl }; none = none }))
 
-  pub no-slot : (next : Went) (slot : ℕ) → slot < w.geom.slots → next ≡ went.Ended (ends.Damaged (slot_sector w.geom slot)) → slot_in slot sector.bytes ≡ None
+  pub no-slot : (next : Went) (slot : ℕ) → slot < w.geom.slots → next ≡ went.Ended (ends.Damaged (slot_sector w.geom slot))
+      → slot_in slot sector.bytes ≡ None
       → Goes w notes now (read (slot_sector w.geom slot)) next
   no-slot next slot within is none = damaged w notes now (read (slot_sector w.geom slot)) next (slot_sector w.geom slot) is
-      (BadSlot slot refl (record { within = within; sector = sector; read = record { tick = tick; earlier = pass; newest = refl }; none = none }))
+      (BadSlot slot refl (record {
+        within = within;
+        sector = sector;
+        read = record { tick = tick; earlier = pass; newest = refl };
+        none = none;
+      }))
 
   -- what was read is shown
-  pub header-now : (h : Header) → (h.object ≡ w.object) × IsHeader h × (sector.bytes ≡ header_bytes h) → IsShown w (read (lock_sector w.geom w.object)) h
+  pub header-now : (h : Header) → (h.object ≡ w.object) × IsHeader h × (sector.bytes ≡ header_bytes h)
+      → IsShown w (read (lock_sector w.geom w.object)) h
   header-now h spelled = record {
-    last = subst (IsLast (seen_of (read (lock_sector w.geom w.object))) (lock_sector w.geom w.object)) (same_sector sector (header_image h) spelled.2)
+    last = subst (IsLast (seen_of (read (lock_sector w.geom w.object))) (lock_sector w.geom w.object)) (same_sector sector
+        (header_image h) spelled.2)
         (last-now (seen_of pass) (lock_sector w.geom w.object) sector);
     is_header = spelled.1;
     same_object = spelled.0;
   }
 
-  pub slot-now : (slot : ℕ) (s : Slot) → slot < w.geom.slots → IsSlot s × (sector.bytes ≡ slot_bytes slot s) → IsSlotShown w (read (slot_sector w.geom slot)) slot s
+  pub slot-now : (slot : ℕ) (s : Slot) → slot < w.geom.slots → IsSlot s × (sector.bytes ≡ slot_bytes slot s)
+      → IsSlotShown w (read (slot_sector w.geom slot)) slot s
   slot-now slot s within spelled = record {
     within = within;
-    last = subst (IsLast (seen_of (read (slot_sector w.geom slot))) (slot_sector w.geom slot)) (same_sector sector (slot_image slot s) spelled.1)
+    last = subst (IsLast (seen_of (read (slot_sector w.geom slot))) (slot_sector w.geom slot)) (same_sector sector
+        (slot_image slot s) spelled.1)
         (last-now (seen_of pass) (slot_sector w.geom slot) sector);
     is_slot = spelled.0;
   }

@@ -1,5 +1,5 @@
 -- How a pass grows, and what a Swap that misses makes of it.
-use Rattle.std.proofs.Common.{◌≡◌, ℕ, ◌^◌, ◌<◌, ◌⊎◌, inl, inr, Bool, true, false, List, [], ◌∷◌, ◌++◌, Option, Some, None, refl, sym, ap, subst, ◌∙◌, append_assoc, arith}
+use Rattle.std.proofs.Common.{◌≡◌, ℕ, ◌^◌, ◌<◌, ◌⊎◌, inl, inr, Bool, true, false, List, [], ◌∷◌, ◌++◌, Option, Some, None, refl, sym, ap, subst, ◌∙◌, append_assoc}
 use Rattle.std.specs.List.{Contains}
 use Rattle.ds_base.specs.Exchanges.{Exchange, IsLast, seen_of}
 use Rattle.ds_base.specs.declared.commands.Command.TheVariants.{Swap}
@@ -8,8 +8,8 @@ use Rattle.ds_base.specs.declared.sectors.Sector.{Sector}
 use Rattle.ds_marks.specs.declared.header.Header.{Header}
 use Rattle.ds_marks.specs.declared.slot.Slot.{Slot}
 use Rattle.ds_watch.specs.Notes.{Note}
-use Rattle.ds_lock.specs.Locking.{Cause, HasNoMiss, IsAfterMiss, IsLoose, IsNoMiss, IsOwnedBy, IsRaced, IsShown, IsSlotShown, IsToBreak, Misses, Over, header_image, lock_sector, slot_image, slot_sector}
-use Rattle.ds_lock.specs.Stages.{Agrees, Awaits, FitsWent, GoesBy, HasEnded, HasFreed, HasMissed, HasSeen, IsGoing, IsPass, Leads, LockValue, StandsAfter, Told}
+use Rattle.ds_lock.specs.Locking.{Cause, HasNoMiss, IsNoMiss, IsOwnedBy, IsRaced, IsSlotShown, IsToBreak, Misses, Over, header_image, lock_sector, slot_image, slot_sector}
+use Rattle.ds_lock.specs.Stages.{Agrees, FitsWent, HasEnded, HasFreed, HasMissed, HasSeen, IsPass, Leads, LockValue, StandsAfter, Told}
 use Rattle.ds_lock.specs.declared.ends.LockEnd.{LockEnd}
 use Rattle.ds_lock.specs.declared.ends.LockEnd.TheVariants as ends
 use Rattle.ds_lock.specs.declared.how.How.TheVariants as hows
@@ -24,7 +24,8 @@ none-missed [] ys none nor = nor
 none-missed (x ∷ xs) ys none nor = (none.0, none-missed xs ys none.1 nor)
 
 -- exchanges of which none missed lengthen the pass
-pub grown : (w : Wanted) (missed : Bool) (more xs pass : List Exchange) → HasNoMiss more → IsPass w missed xs pass → IsPass w missed (more ++ xs) (more ++ pass)
+pub grown : (w : Wanted) (missed : Bool) (more xs pass : List Exchange) → HasNoMiss more → IsPass w missed xs pass
+    → IsPass w missed (more ++ xs) (more ++ pass)
 grown w false more xs pass none is = (ap (λ (l : List Exchange). more ++ l) is.0, none-missed more pass none is.1)
 grown w true more xs pass none is = record {
   first = is.first;
@@ -57,7 +58,8 @@ module _ (w : Wanted) (notes : List Note) (now : ℕ) (x : Exchange) (xs pass : 
       → HasEnded (over missed) notes now (x ∷ xs) end
   has-ended missed end is cause = record { pass = x ∷ pass; is_pass = longer missed cause.0 is; cause = cause.1 }
 
-  pub ended-leads : (missed : Bool) (end : LockEnd) → IsPass w missed xs pass → FitsWent w (went.Ended end) → IsNoMiss x.response × Cause w notes now (x ∷ pass) end
+  pub ended-leads : (missed : Bool) (end : LockEnd) → IsPass w missed xs pass → FitsWent w (went.Ended end)
+      → IsNoMiss x.response × Cause w notes now (x ∷ pass) end
       → Told (over missed) notes now (x ∷ xs) end × StandsAfter (over missed) (x ∷ xs) end
   ended-leads missed ends.Got is fits cause = (has-ended missed ends.Got is cause, refl)
   ended-leads missed (ends.Busy (hows.Held slot s)) is fits cause = (has-ended missed (ends.Busy (hows.Held slot s)) is cause, refl)
@@ -69,14 +71,16 @@ module _ (w : Wanted) (notes : List Note) (now : ℕ) (x : Exchange) (xs pass : 
   ended-leads missed ends.Faulted is fits cause = (has-ended missed ends.Faulted is cause, refl)
   ended-leads missed (ends.NeedsBreak slot s) is fits cause = absurd fits
 
-  breaks : (missed : Bool) (h : Header) (slot : ℕ) (s : Slot) → IsPass w missed xs pass → IsNoMiss x.response × IsToBreak w notes now (x ∷ pass) h slot s
+  breaks : (missed : Bool) (h : Header) (slot : ℕ) (s : Slot) → IsPass w missed xs pass → IsNoMiss x.response × IsToBreak w notes now (x
+      ∷ pass) h slot s
       → Leads (record { wanted = w; missed = missed; stage = stages.Broken h slot s }) (Some (ends.NeedsBreak slot s)) notes now (x ∷ xs)
   breaks missed h slot s is to = (
     record { pass = x ∷ pass; is_pass = longer missed to.0 is; cause = (h, to.1) },
     ((h, refl), record { pass = x ∷ pass; is_pass = longer missed to.0 is; seen = (to.1.by, to.1.room) }),
   )
 
-  pub breaks-leads : (missed : Bool) (h : Header) (slot : ℕ) (s : Slot) (run : LockValue) (result : Option LockEnd) → run.wanted ≡ w → run.missed ≡ missed
+  pub breaks-leads : (missed : Bool) (h : Header) (slot : ℕ) (s : Slot) (run : LockValue) (result : Option LockEnd) → run.wanted ≡ w
+      → run.missed ≡ missed
       → run.stage ≡ stages.Broken h slot s → result ≡ Some (ends.NeedsBreak slot s) → IsPass w missed xs pass
       → IsNoMiss x.response × IsToBreak w notes now (x ∷ pass) h slot s → Leads run result notes now (x ∷ xs)
   breaks-leads missed h slot s run result e0 e1 e2 e3 is to =
@@ -86,7 +90,8 @@ module _ (w : Wanted) (notes : List Note) (now : ℕ) (x : Exchange) (xs pass : 
       (subst (λ v. Leads (record { wanted = w; missed = missed; stage = stages.Broken h slot s }) v notes now (x ∷ xs)) (sym e3)
       (breaks missed h slot s is to))))
 
-  first-missed : IsPass w false xs pass → Misses w x pass → Leads (record { wanted = w; missed = true; stage = stages.Header }) None notes now (x ∷ xs)
+  first-missed : IsPass w false xs pass → Misses w x pass → Leads (record { wanted = w; missed = true; stage = stages.Header }) None notes
+      now (x ∷ xs)
   first-missed is misses = (
     record {
       pass = [];
@@ -106,7 +111,8 @@ module _ (w : Wanted) (notes : List Note) (now : ℕ) (x : Exchange) (xs pass : 
   raced : IsPass w true xs pass → Misses w x pass → IsRaced w (x ∷ xs)
   raced is misses = record { second = x; rest = xs; newest = refl; pass = pass; since = is; misses = misses }
 
-  pub miss-leads : (missed : Bool) (run : LockValue) (result : Option LockEnd) → run.wanted ≡ w → First missed run result → Second missed run result
+  pub miss-leads : (missed : Bool) (run : LockValue) (result : Option LockEnd) → run.wanted ≡ w → First missed run result
+      → Second missed run result
       → IsPass w missed xs pass → Misses w x pass → Leads run result notes now (x ∷ xs)
   miss-leads false run result e0 first second is misses =
       let e = first refl in
@@ -180,5 +186,6 @@ header_of (stages.Broken h slot s) other = h
 header_of stage other = other
 
 -- one break is awaited
-pub one-header : (stage : Stage) (h other : Header) (slot at : ℕ) (s image : Slot) → stage ≡ stages.Broken h slot s → stage ≡ stages.Broken other at image → h ≡ other
+pub one-header : (stage : Stage) (h other : Header) (slot at : ℕ) (s image : Slot) → stage ≡ stages.Broken h slot s
+    → stage ≡ stages.Broken other at image → h ≡ other
 one-header stage h other slot at s image e0 e1 = ap (λ v. header_of v h) (sym e0 ∙ e1)

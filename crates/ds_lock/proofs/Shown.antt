@@ -1,5 +1,5 @@
 -- What one more exchange shows, and what stays shown.
-use Rattle.std.proofs.Common.{◌≡◌, ◌≢◌, ℕ, zero, suc, ◌+◌, ◌*◌, ◌-◌, ◌/◌, ◌%◌, ◌<◌, ◌≤◌, ◌⊎◌, inl, inr, cond, true, false, List, [], ◌∷◌, ◌++◌, Some, refl, sym, ap, subst, ◌∙◌, append_assoc, arith}
+use Rattle.std.proofs.Common.{◌≡◌, ◌≢◌, ℕ, zero, suc, ◌+◌, ◌*◌, ◌-◌, ◌/◌, ◌%◌, ◌<◌, ◌≤◌, ◌⊎◌, inl, inr, cond, true, false, List, [], ◌∷◌, ◌++◌, refl, sym, ap, subst, ◌∙◌, append_assoc, arith}
 use Rattle.std.specs.Prelude.{nat_lt}
 use Rattle.std.specs.List.{Contains}
 use Rattle.std.proofs.lemmas.Bool.{cases_Bool}
@@ -76,7 +76,8 @@ module _ (w : Wanted) (pass : List Exchange) (tick slot : ℕ) (sector : Sector)
   -- a header stays shown while a slot is read
   abbrev pub shown-past : (h : Header) → IsShown w pass h → IsShown w read h
   shown-past h shown = record {
-    last = last-past (seen_of pass) (lock_sector w.geom w.object) (slot_sector w.geom slot) (record { bytes = Rattle.ds_marks.specs.Header.header_bytes h }) sector
+    last = last-past (seen_of pass) (lock_sector w.geom w.object) (slot_sector w.geom slot) (record
+        { bytes = Rattle.ds_marks.specs.Header.header_bytes h }) sector
         (header-apart w.geom w.object slot within) shown.last;
     is_header = shown.is_header;
     same_object = shown.same_object;
@@ -89,7 +90,8 @@ module _ (w : Wanted) (pass : List Exchange) (tick slot : ℕ) (sector : Sector)
   abbrev pub slot-past : (other : ℕ) (s : Slot) → slot ≢ other → IsSlotShown w pass other s → IsSlotShown w read other s
   slot-past other s differs shown = record {
     within = shown.within;
-    last = last-past (seen_of pass) (slot_sector w.geom other) (slot_sector w.geom slot) (record { bytes = Rattle.ds_marks.specs.Slot.slot_bytes other s }) sector
+    last = last-past (seen_of pass) (slot_sector w.geom other) (slot_sector w.geom slot) (record
+        { bytes = Rattle.ds_marks.specs.Slot.slot_bytes other s }) sector
         (slots-apart w.geom slot other differs) shown.last;
     is_slot = shown.is_slot;
   }
@@ -110,7 +112,8 @@ Contains-append (y ∷ xs) ys x has = elim (Contains-cases (xs ++ ys) y x has) [
   ]
 ]
 
-seen_with-append : (command : Command) (response : Response) (ps qs : List Pair) → seen_with command response (ps ++ qs) ≡ seen_with command response ps ++ qs
+seen_with-append : (command : Command) (response : Response) (ps qs : List Pair) → seen_with command response (ps
+    ++ qs) ≡ seen_with command response ps ++ qs
 seen_with-append (Read at) (Got s) ps qs = refl
 seen_with-append (Read at) Done ps qs = refl
 seen_with-append (Read at) (Miscompare o) ps qs = refl
@@ -134,7 +137,8 @@ pub last-lifts : (xs ys : List Exchange) (at : ℕ) (s : Sector) → IsLast (see
 last-lifts xs ys at s last = record {
   newer = last.newer;
   older = last.older ++ seen_of ys;
-  parts = seen_of-append xs ys ∙ (ap (λ (ps : List Pair). ps ++ seen_of ys) last.parts ∙ append_assoc last.newer ((at, s) ∷ last.older) (seen_of ys));
+  parts = seen_of-append xs ys ∙ (ap (λ (ps : List Pair). ps ++ seen_of ys) last.parts ∙ append_assoc last.newer ((at, s)
+      ∷ last.older) (seen_of ys));
   newest = last.newest;
 }
 
@@ -144,7 +148,8 @@ pub last-stays : (xs ys : List Exchange) (at : ℕ) (s : Sector) → ((other : S
 last-stays xs ys at s none last = record {
   newer = seen_of xs ++ last.newer;
   older = last.older;
-  parts = seen_of-append xs ys ∙ (ap (λ (ps : List Pair). seen_of xs ++ ps) last.parts ∙ sym (append_assoc (seen_of xs) last.newer ((at, s) ∷ last.older)));
+  parts = seen_of-append xs ys ∙ (ap (λ (ps : List Pair). seen_of xs ++ ps) last.parts ∙ sym (append_assoc (seen_of xs) last.newer ((at, s)
+      ∷ last.older)));
   newest = λ other has. elim (Contains-append (seen_of xs) last.newer (at, other) has) [
     | inl front ↦ none other front
     | inr back ↦ last.newest other back

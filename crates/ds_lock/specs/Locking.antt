@@ -1,5 +1,5 @@
--- What the taking of a lock has sent and heard when it ends so. A pass is what was sent and heard since it began, or since a Swap missed; the
--- newest exchange stands first.
+-- What the taking of a lock has sent and heard when it ends so. A pass is what was sent and heard since it began, or since a Swap missed;
+-- the newest exchange stands first.
 use Rattle.std.specs.Prelude.{◌≡◌, ◌≢◌, ℕ, ◌+◌, ◌^◌, ◌<◌, ◌≤◌, ◌⊎◌, List, [], ◌∷◌, ◌++◌, Some, None, ⊤}
 use Rattle.ds_base.specs.Exchanges.{Exchange, IsLast, seen_of}
 use Rattle.ds_base.specs.declared.commands.Command.TheVariants.{Read, Swap}
@@ -152,9 +152,13 @@ pub data NamesNobody (w : Wanted) (o : Owner) : Type 0 where
   Outside : w.geom.slots ≤ o.slot → NamesNobody w o
   Later : o.slot ≡ w.own.slot → w.own.generation < o.generation → NamesNobody w o
 
+-- where the header names the host's own slot, it names an earlier generation
+abbrev pub IsEarlier : Wanted → Owner → Type 0
+IsEarlier w o = o.slot ≡ w.own.slot → o.generation < w.own.generation
+
 -- its slot isn't as an owner's can be: it is the own one and not over, or it isn't in that generation yet, or it is free in it
 pub data IsAtOdds (w : Wanted) (o : Owner) (s : Slot) : Type 0 where
-  Own : o.slot ≡ w.own.slot → s.generation ≤ o.generation → IsAtOdds w o s
+  Own : o.slot ≡ w.own.slot → o.generation < w.own.generation → s.generation ≤ o.generation → IsAtOdds w o s
   Behind : s.generation < o.generation → IsAtOdds w o s
   Empty : s.generation ≡ o.generation → s.state ≡ states.Free → IsAtOdds w o s
 

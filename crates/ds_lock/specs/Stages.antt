@@ -1,5 +1,5 @@
 -- What the taking of a lock has sent and heard at each stage, and what it sends next.
-use Rattle.std.specs.Prelude.{◌≡◌, ◌≢◌, ℕ, ◌+◌, ◌*◌, ◌^◌, ◌<◌, ◌⊎◌, ◌==◌, if◌then◌else◌, Bool, true, false, List, [], ◌∷◌, Option, Some, None, ⊤}
+use Rattle.std.specs.Prelude.{◌≡◌, ◌≢◌, ℕ, ◌+◌, ◌^◌, ◌<◌, ◌⊎◌, ◌==◌, if◌then◌else◌, Bool, true, false, List, [], ◌∷◌, Option, Some, None, ⊤}
 use Rattle.std.specs.List.{Contains}
 use Rattle.ds_base.specs.Exchanges.{Exchange, IsLast, seen_of}
 use Rattle.ds_base.specs.Geometry.{IsGeom}
@@ -16,7 +16,7 @@ use Rattle.ds_marks.specs.declared.header.Header.{Header}
 use Rattle.ds_marks.specs.declared.slot.Slot.{Slot}
 use Rattle.ds_marks.specs.declared.slot.SlotState.TheVariants as states
 use Rattle.ds_watch.specs.Notes.{Note}
-use Rattle.ds_lock.specs.Locking.{Cause, HasNoMiss, IsAfterMiss, IsLoose, IsNoMiss, IsOwned, IsOwnedBy, IsRaced, IsShown, IsToBreak, Misses, header_image, lock_sector, slot_image, slot_sector, taken_from}
+use Rattle.ds_lock.specs.Locking.{Cause, HasNoMiss, IsAfterMiss, IsEarlier, IsLoose, IsNoMiss, IsOwned, IsOwnedBy, IsRaced, IsShown, IsToBreak, Misses, header_image, lock_sector, slot_image, slot_sector, taken_from}
 use Rattle.ds_lock.specs.declared.ends.LockEnd.{LockEnd}
 use Rattle.ds_lock.specs.declared.ends.LockEnd.TheVariants as ends
 use Rattle.ds_lock.specs.declared.how.How.TheVariants.{Raced}
@@ -70,7 +70,7 @@ due run = due_at run.wanted run.stage
 -- what this pass has shown at a stage
 abbrev pub HasSeen : Wanted → Stage → List Exchange → Type 0
 HasSeen w stages.Header pass = pass ≡ []
-HasSeen w (stages.Owner h o) pass = IsOwned w pass h o × (o.slot < w.geom.slots)
+HasSeen w (stages.Owner h o) pass = IsOwned w pass h o × (o.slot < w.geom.slots) × IsEarlier w o
 HasSeen w (stages.Breaker h slot s by generation) pass =
     IsOwnedBy w pass h slot s × (s.state ≡ states.Breaking by generation) × (by < w.geom.slots) × (by ≢ slot)
 HasSeen w (stages.Taking h) pass = IsShown w pass h × IsLoose w pass h × (h.generation < 2 ^ 62)

@@ -4,7 +4,7 @@ ghost use Rattle.ds_base.specs.Exchanges.{Exchange};
 ghost use Rattle.ds_marks.specs.declared.slot.SlotState.TheVariants as states;
 ghost use Rattle.ds_watch.specs.Notes.{IsStale, Note};
 ghost use Rattle.ds_watch.specs.Remembering.{Remembers};
-ghost use Rattle.ds_lock.specs.Locking.{IsLoose, IsLost, IsOwned, IsOwnedBy, IsShown, IsSlotShown, slot_image};
+ghost use Rattle.ds_lock.specs.Locking.{IsEarlier, IsLoose, IsLost, IsOwned, IsOwnedBy, IsShown, IsSlotShown, slot_image};
 ghost use Rattle.ds_lock.specs.Stages.{FitsHeader, FitsWent, Goes, left_after, IsWanted, with_note};
 
 use crate::ends::LockEnd;
@@ -52,7 +52,7 @@ impl Wanted {
         requires wanted { IsWanted self.now }
         requires header { FitsHeader self.now header.now }
         requires within { owner.now.slot < self.now.geom.slots }
-        ensures goes { (notes : List Note) (now : ℕ) (pass : List Exchange) → IsOwned self.now pass header.now owner.now
+        ensures goes { (notes : List Note) (now : ℕ) (pass : List Exchange) → IsOwned self.now pass header.now owner.now → IsEarlier self.now owner.now
             → IsSlotShown self.now pass owner.now.slot image.now
             → (owner.now.slot ≢ self.now.own.slot → IsTrue stale ↔ IsStale notes owner.now.slot (slot_image owner.now.slot image.now) now)
             → Goes self.now notes now pass result }

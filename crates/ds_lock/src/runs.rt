@@ -9,7 +9,7 @@ ghost use Rattle.ds_layout.specs.Places.{IsLock};
 ghost use Rattle.ds_marks.specs.Header.{IsOwner};
 ghost use Rattle.ds_watch.specs.Notes.{Note};
 ghost use Rattle.ds_watch.specs.Remembering.{Remembers};
-ghost use Rattle.ds_lock.specs.Locking.{IsOwned, header_image, lock_sector, slot_sector, taken_from};
+ghost use Rattle.ds_lock.specs.Locking.{IsEarlier, IsOwned, header_image, lock_sector, slot_sector, taken_from};
 ghost use Rattle.ds_lock.specs.Stages.{
   Agrees,
   Awaits,
@@ -278,7 +278,7 @@ impl Wanted {
         requires header { FitsHeader self.now header.now }
         requires within { owner.now.slot < self.now.geom.slots }
         ensures noted { (notes : List Note) → Remembers watch.old notes → Remembers watch.new (with_note self.now owner.now.slot sector.now now notes) }
-        ensures goes { (notes : List Note) (pass : List Exchange) → Remembers watch.old notes → IsOwned self.now pass header.now owner.now
+        ensures goes { (notes : List Note) (pass : List Exchange) → Remembers watch.old notes → IsOwned self.now pass header.now owner.now → IsEarlier self.now owner.now
             → Goes self.now (with_note self.now owner.now.slot sector.now now notes) now
             (record { command = Command.Read (slot_sector self.now.geom owner.now.slot); response = Response.Got sector.now; tick = now } ∷ pass) result }
         ensures fits { FitsWent self.now result }

@@ -10,6 +10,8 @@ returns-in-None-clause-goes c = λ notes pass seen.
 pub returns-in-Some-clause-goes : goal.returns-in-Some-clause-goes
 returns-in-Some-clause-goes c = λ notes pass seen.
     c.breaker_shown.ensures.goes notes c.args.now _ c.args.by
-    (owned-by-past c.args.self.now notes c.args.now c.args.now pass c.args.sector.now c.args.header.now c.args.slot c.args.by c.args.image.now c.requires.within seen.3 seen.0)
+    (owned-by-past c.args.self.now notes c.args.now c.args.now pass c.args.sector.now c.args.header.now c.args.slot c.args.by
+    c.args.image.now c.requires.within seen.3 seen.0)
     seen.1
-    (slot-now c.args.self.now notes c.args.now c.args.now pass c.args.sector.now c.args.by c.in-Some.breaker c.requires.within ((c.decode.ensures.spelled c.in-Some.breaker).0 c.in-Some.is))
+    (slot-now c.args.self.now notes c.args.now c.args.now pass c.args.sector.now c.args.by c.in-Some.breaker c.requires.within
+    ((c.decode.ensures.spelled c.in-Some.breaker).0 c.in-Some.is))

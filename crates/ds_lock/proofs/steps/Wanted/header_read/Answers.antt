@@ -8,9 +8,11 @@ header_shown-requires-clause-header c =
 
 pub returns-in-None-clause-goes : goal.returns-in-None-clause-goes
 returns-in-None-clause-goes c = λ notes now.
-    no-header c.args.self.now notes now now [] c.args.sector.now c.damaged.result c.damaged.ensures (sym c.decode.ensures.value ∙ c.in-None.is)
+    no-header c.args.self.now notes now now [] c.args.sector.now c.damaged.result c.damaged.ensures (sym c.decode.ensures.value
+    ∙ c.in-None.is)
 
 pub returns-in-Some-clause-goes : goal.returns-in-Some-clause-goes
 returns-in-Some-clause-goes c = λ notes now.
     c.header_shown.ensures.goes notes now _
-    (header-now c.args.self.now notes now now [] c.args.sector.now c.in-Some.header ((c.decode.ensures.spelled c.in-Some.header).0 c.in-Some.is))
+    (header-now c.args.self.now notes now now [] c.args.sector.now c.in-Some.header ((c.decode.ensures.spelled c.in-Some.header).0
+    c.in-Some.is))

@@ -7,5 +7,6 @@ pub returns-then-header-ge-MOST_GENERATION-clause-goes : goal.returns-then-heade
 returns-then-header-ge-MOST_GENERATION-clause-goes c = λ notes now pass owned lost.
     Unbroken c.args.header.now c.args.slot c.args.image.now owned lost (elim c.then-header-ge-MOST_GENERATION.branch [
       | then-header-ge-MOST_GENERATION-via-then-header-ge-MOST_GENERATION w ↦ inl w.if-header-ge-MOST_GENERATION.true
-      | then-header-ge-MOST_GENERATION-via-else-header-ge-MOST_GENERATION+then-image-ge-MOST_GENERATION w ↦ inr w.if-image-ge-MOST_GENERATION.true
+      | then-header-ge-MOST_GENERATION-via-else-header-ge-MOST_GENERATION+then-image-ge-MOST_GENERATION w
+          ↦ inr w.if-image-ge-MOST_GENERATION.true
     ])

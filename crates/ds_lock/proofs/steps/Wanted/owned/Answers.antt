@@ -9,5 +9,6 @@ returns-then-owner-self-3-clause-goes c = λ notes now pass shown.
 
 pub returns-then-owner-self-4-clause-goes : goal.returns-then-owner-self-4-clause-goes
 returns-then-owner-self-4-clause-goes c = λ notes now pass shown.
-    bad-owner c.args.self.now notes now pass c.damaged-then-owner-self-4.result c.args.header.now c.args.owner.now c.damaged-then-owner-self-4.ensures
+    bad-owner c.args.self.now notes now pass c.damaged-then-owner-self-4.result c.args.header.now c.args.owner.now
+    c.damaged-then-owner-self-4.ensures
     c.requires.owner (Outside c.if-owner-self-4.true) shown

@@ -3,7 +3,8 @@ use Rattle.ds_lock.proofs.steps.Wanted.owning.Goals as goal
 
 pub returns-in-Free-clause-goes : goal.returns-in-Free-clause-goes
 returns-in-Free-clause-goes c = λ notes now pass owned stale.
-    empty-slot c.args.self.now notes now pass c.damaged.result c.args.header.now c.args.slot c.args.image.now c.damaged.ensures c.in-Free.is owned
+    empty-slot c.args.self.now notes now pass c.damaged.result c.args.header.now c.args.slot c.args.image.now c.damaged.ensures
+    c.in-Free.is owned
 
 pub returns-in-Breaking-clause-goes : goal.returns-in-Breaking-clause-goes
 returns-in-Breaking-clause-goes c = λ notes now pass owned stale. c.breaking.ensures.goes notes now pass owned
