@@ -56,7 +56,8 @@ retired s = record { state = s.state; generation = s.generation; host = s.host; 
 -- a Swap of the own slot from one image to the next
 abbrev pub own_swap : Change → Slot → Slot → Command
 own_swap c from to =
-    Swap (place_sector c.geom (places.Slot c.own.slot)) (record { bytes = slot_bytes c.own.slot from }) (record { bytes = slot_bytes c.own.slot to })
+    Swap (place_sector c.geom (places.Slot c.own.slot)) (record { bytes = slot_bytes c.own.slot from }) (record
+    { bytes = slot_bytes c.own.slot to })
 
 abbrev pub beat : Change → Command
 beat c = own_swap c c.image (beaten c.image)

@@ -92,10 +92,12 @@ pub record IsRun (run : TxnValue) : Type 0 where
 -- the stage after one that was done
 abbrev pub IsNext : Change → Stage → Stage → Type 0
 IsNext c stages.Beat next = next ≡ stages.Journal 0
-IsNext c (stages.Journal i) next = ((i + 1 < length c.pairs) × (next ≡ stages.Journal (i + 1))) ⊎ ((i + 1 ≡ length c.pairs) × (next ≡ stages.Index))
+IsNext c (stages.Journal i) next = ((i + 1 < length c.pairs) × (next ≡ stages.Journal (i + 1))) ⊎ ((i + 1 ≡ length c.pairs)
+    × (next ≡ stages.Index))
 IsNext c stages.Index next = next ≡ stages.Commit
 IsNext c stages.Commit next = next ≡ stages.Place 0
-IsNext c (stages.Place i) next = ((i + 1 < length c.pairs) × (next ≡ stages.Place (i + 1))) ⊎ ((i + 1 ≡ length c.pairs) × (next ≡ stages.Retire))
+IsNext c (stages.Place i) next = ((i + 1 < length c.pairs) × (next ≡ stages.Place (i + 1))) ⊎ ((i + 1 ≡ length c.pairs)
+    × (next ≡ stages.Retire))
 IsNext c stages.Retire next = next ≡ stages.Over
 IsNext c stages.Over next = ⊥
 
@@ -119,7 +121,8 @@ mine_after c stage mine = mine
 
 -- where a response led, and what it told
 abbrev pub Leads : TxnValue → Response → TxnValue → Option TxnEnd → Type 0
-Leads old Done new result = IsNext old.change old.stage new.stage × (result ≡ told_by old.stage) × (new.mine ≡ mine_after old.change old.stage old.mine)
+Leads old Done new result = IsNext old.change old.stage new.stage × (result ≡ told_by old.stage)
+    × (new.mine ≡ mine_after old.change old.stage old.mine)
 Leads old (Miscompare offset) new result = (new.stage ≡ stages.Over) × (result ≡ Some (ends.Fenced offset)) × (new.mine ≡ old.mine)
 Leads old Fault new result = (new.stage ≡ stages.Over) × (result ≡ Some (fault_at old.stage)) × (new.mine ≡ old.mine)
 Leads old response new result = ⊥

@@ -1,5 +1,5 @@
 //! A change of a volume, command by command.
-ghost use Rattle.std.specs.Prelude.{◌≡◌, ◌+◌, ◌<◌, ◌≤◌, ◌^◌, ℕ, [], ◌∷◌, List, length, map};
+ghost use Rattle.std.specs.Prelude.{◌≡◌, ◌↔◌, IsTrue, ◌+◌, ◌<◌, ◌≤◌, ◌^◌, ℕ, [], ◌∷◌, List, length, map};
 ghost use Rattle.std.specs.List.Sorted.{IsStrictlyIncreasing};
 ghost use Rattle.ds_base.specs.Device.{Fits};
 ghost use Rattle.ds_base.specs.Exchanges.{Exchange};
@@ -119,6 +119,14 @@ impl TxnRun {
         self.redo.pairs.len() as u8
     }
 
+    /// Whether this is the last pair.
+    fn is_last(&self, pair: u8) -> bool
+        requires { pair < length self.now.change.pairs }
+        ensures { IsTrue result ↔ (pair + 1 ≡ length self.now.change.pairs) }
+    {
+        self.count() - pair == 1
+    }
+
     /// The pair of this number.
     fn pair(&self, pair: u8) -> (SectorNo, Sector)
         requires { pair < length self.now.change.pairs }
@@ -222,7 +230,7 @@ impl TxnRun {
                 None
             }
             Stage::Journal { pair } => {
-                self.stage = if pair + 1 == self.count() {
+                self.stage = if self.is_last(pair) {
                     Stage::Index
                 } else {
                     Stage::Journal { pair: pair + 1 }
@@ -240,7 +248,7 @@ impl TxnRun {
                 Some(TxnEnd::Committed)
             }
             Stage::Place { pair } => {
-                self.stage = if pair + 1 == self.count() {
+                self.stage = if self.is_last(pair) {
                     Stage::Retire
                 } else {
                     Stage::Place { pair: pair + 1 }
