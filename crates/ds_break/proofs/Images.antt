@@ -1,10 +1,8 @@
 -- The images that a break writes are slots.
-use Rattle.std.proofs.Common.{◌≡◌, ◌≢◌, ℕ, ◌+◌, ◌^◌, ◌<◌, ◌≤◌, Some, refl, arith}
-use Rattle.ds_base.specs.Geometry.{IsGeom}
-use Rattle.ds_base.specs.declared.geometry.Geom.{Geom}
+use Rattle.std.proofs.Common.{◌≢◌, ◌^◌, ◌≤◌, refl, arith}
 use Rattle.ds_base.specs.declared.geometry.GeomField.TheVariants.{Slots}
-use Rattle.ds_break.specs.Breaking.{Break, IsBreak, broken, cleared}
-use Rattle.ds_marks.specs.Slot.{InRanges, IsOfState, IsSlot}
+use Rattle.ds_break.specs.Breaking.{Break, IsBreak, broken}
+use Rattle.ds_marks.specs.Slot.{InRanges, IsOfState}
 use Rattle.ds_marks.specs.declared.slot.Slot.{Slot}
 use Rattle.ds_marks.specs.declared.slot.SlotState.{SlotState}
 use Rattle.ds_marks.specs.declared.slot.SlotState.TheVariants.{Free, Live, Breaking}
@@ -21,6 +19,13 @@ broken-is b is =
     record {
       generation_from = is.is_image.ranges.generation_from;
       generation_to = is.is_image.ranges.generation_to;
-      is_of_state = (has_stamp b.image.state b.image is.lost is.is_image.ranges.is_of_state, (omega (arith, is.own_within, few), is.is_owner.0, is.is_owner.1));
+      is_of_state = (
+        has_stamp b.image.state b.image is.lost is.is_image.ranges.is_of_state,
+        (
+          omega (arith, is.own_within, few),
+          is.is_owner.0,
+          is.is_owner.1,
+        ),
+      );
       is_of_journal = is.is_image.ranges.is_of_journal;
     }

@@ -1,5 +1,5 @@
 -- What a break sends and hears, in which order.
-use Rattle.std.specs.Prelude.{◌≡◌, ◌≢◌, ℕ, zero, suc, ◌+◌, ◌^◌, ◌<◌, ◌≤◌, ◌⊎◌, List, [], ◌∷◌, length, map, get_or, replicate}
+use Rattle.std.specs.Prelude.{◌≡◌, ◌≢◌, ℕ, zero, suc, ◌+◌, ◌^◌, ◌<◌, ◌≤◌, ◌⊎◌, List, [], ◌∷◌, length, get_or, replicate}
 use Rattle.std.specs.List.{All}
 use Rattle.ds_base.specs.Geometry.{IsGeom}
 use Rattle.ds_base.specs.declared.commands.Command.{Command}
@@ -49,13 +49,20 @@ beaten s = record { state = s.state; generation = s.generation; host = s.host; s
 
 -- the slot broken by an owner, all else kept; and free, in the next generation
 abbrev pub broken : Owner → Slot → Slot
-broken own s = record { state = Breaking own.slot own.generation; generation = s.generation; host = s.host; stamp = s.stamp; journal = s.journal }
+broken own s = record {
+  state = Breaking own.slot own.generation;
+  generation = s.generation;
+  host = s.host;
+  stamp = s.stamp;
+  journal = s.journal;
+}
 
 abbrev pub cleared : Slot → Slot
 cleared s = record { state = Free; generation = s.generation + 1; host = replicate 16 0; stamp = 0; journal = Idle }
 
 abbrev pub slot_swap : Geom → ℕ → Slot → Slot → Command
-slot_swap g slot from to = Swap (place_sector g (places.Slot slot)) (record { bytes = slot_bytes slot from }) (record { bytes = slot_bytes slot to })
+slot_swap g slot from to = Swap (place_sector g (places.Slot slot)) (record { bytes = slot_bytes slot from }) (record
+    { bytes = slot_bytes slot to })
 
 abbrev pub break_swap : Break → Command
 break_swap b = slot_swap b.geom b.slot b.image (broken b.own b.image)
@@ -103,7 +110,8 @@ broke b = (break_swap b, Done) ∷ []
 
 -- this many pairs were read and written, after the break, the index and the renewal
 abbrev pub HasReplayed : Break → List ℕ → ℕ → Steps → Type 0
-HasReplayed b targets zero steps = (sector : Sector) × IsIndexOf b sector targets × (steps ≡ (beat b, Done) ∷ (index_read b, Got sector) ∷ broke b)
+HasReplayed b targets zero steps = (sector : Sector) × IsIndexOf b sector targets × (steps ≡ (beat b, Done) ∷ (index_read b, Got sector)
+    ∷ broke b)
 HasReplayed b targets (suc i) steps =
     (s : Sector) × (rest : Steps) × HasReplayed b targets i rest × (steps ≡ (place_write targets i s, Done) ∷ (fetch b i, Got s) ∷ rest)
 

@@ -97,7 +97,8 @@ pub record IsRun (run : BreakValue) : Type 0 where
 -- an answer that leads on, to the next stage
 abbrev pub LeadsOn : Break → List ℕ → Stage → Response → List ℕ → Stage → Type 0
 LeadsOn b targets stages.Breaking Done more next =
-    ((b.image.journal ≡ Idle) × (next ≡ stages.Clearing)) ⊎ ((txn count : ℕ) × (b.image.journal ≡ Committed txn count) × (next ≡ stages.Index))
+    ((b.image.journal ≡ Idle) × (next ≡ stages.Clearing)) ⊎ ((txn count : ℕ) × (b.image.journal ≡ Committed txn count)
+    × (next ≡ stages.Index))
 LeadsOn b targets stages.Index (Got s) more next = IsIndexOf b s more × (next ≡ stages.Beat)
 LeadsOn b targets stages.Beat Done more next = next ≡ stages.Fetch 0
 LeadsOn b targets (stages.Fetch i) (Got s) more next = next ≡ stages.Place i s
