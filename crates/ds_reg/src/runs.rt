@@ -7,7 +7,7 @@ ghost use Rattle.ds_base.specs.declared.commands.Command.{Command};
 ghost use Rattle.ds_base.specs.declared.commands.Next.TheVariants as nexts;
 ghost use Rattle.ds_marks.specs.Slot.{InRanges};
 ghost use Rattle.ds_reg.specs.Registering.{slot_sector};
-ghost use Rattle.ds_reg.specs.Stages.{Agrees, FitsGoing, FitsStage, GoesTo, HasStage, IsCall, Leads, due, image_sector};
+ghost use Rattle.ds_reg.specs.Stages.{Agrees, FitsGoing, FitsStage, GoesTo, HasStage, IsCall, IsRun, Leads, Takes, due, image_sector, told_by};
 ghost use Rattle.ds_reg.specs.declared.steps.Stage.TheVariants as stages;
 
 use crate::calls::{RegCall, RegEnd};
@@ -45,6 +45,7 @@ impl RegRun {
         ensures geom { result.geom ≡ geom.now }
         ensures host { result.host ≡ host }
         ensures call { result.call ≡ what }
+        ensures whole { IsRun result }
         ensures begun { Agrees result [] }
     {
         let stage = first_stage(geom, &what);
@@ -123,6 +124,7 @@ impl RegRun {
         requires { (command : Command) × (due self.now self.now.stage ≡ nexts.Send command) × Fits command response.now }
         ensures goes { (tick : ℕ) (xs : List Exchange) (command : Command) → due self.now self.now.stage ≡ nexts.Send command → Agrees self.now xs
             → GoesTo self.now.geom self.now.host self.now.call result (record { command = command; response = response.now; tick = tick } ∷ xs) }
+        ensures takes { Takes self.now.geom self.now.call self.now.stage response.now result }
         ensures fits { FitsGoing self.now.geom self.now.call result }
     {
         match &self.stage {
@@ -156,6 +158,8 @@ impl RegRun {
         ensures geom { self.new.geom ≡ self.old.geom }
         ensures host { self.new.host ≡ self.old.host }
         ensures call { self.new.call ≡ self.old.call }
+        ensures whole { IsRun self.new }
+        ensures takes { Takes self.old.geom self.old.call self.old.stage response.now (told_by result self.new.stage) }
         ensures leads { (xs : List Exchange) (command : Command) → due self.old self.old.stage ≡ nexts.Send command → Agrees self.old xs
             → Leads self.new result (record { command = command; response = response.now; tick = now } ∷ xs) }
     {
