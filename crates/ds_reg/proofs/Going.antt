@@ -1,6 +1,6 @@
 -- Where each response leads.
 use Rattle.std.proofs.Common.{◌≡◌, ◌≢◌, ℕ, ◌+◌, ◌<◌, inl, inr, Bool, true, false, List, [], ◌∷◌, Option, Some, None, refl, sym, ap, subst, ◌∙◌, arith}
-use Rattle.std.proofs.lemmas.Bool.{cases_lt}
+use Rattle.std.proofs.lemmas.Bool.{cases_eq, cases_lt}
 use Rattle.ds_base.specs.Exchanges.{Exchange, missed_at, seen_of}
 use Rattle.ds_base.specs.declared.commands.Command.{Command}
 use Rattle.ds_base.specs.declared.commands.Command.TheVariants.{Read, Swap}
@@ -34,13 +34,13 @@ faulted command tick xs = record {
 
 -- at first no slot was passed
 pub begun : (g : Geom) → IsGeom g → IsLooking g [] 0
-begun g is = record { within = omega (arith, (is Slots).0); passed = λ before less. absurd (let none : ⊥ = omega (arith, less) in none); untried = λ after less x has. Contains-none x has }
+begun g is = record { within = omega (arith, (is Slots).0); passed = λ before less. absurd (let none : ⊥ = omega (arith, less) in none); untried = λ after less x has. absurd (Contains-none x has) }
 
 pub begun-fits : (g : Geom) (call : RegCall) → IsGeom g → call ≡ calls.Enter → (0 < g.slots) × (call ≡ calls.Enter)
 begun-fits g call is e = (omega (arith, (is Slots).0), e)
 
 pub begun-by : (g : Geom) (call : RegCall) → IsGeom g → call ≡ calls.Enter → HasStage g call (stages.Looking 0 false) []
-begun-by g call is e = subst (λ (c : RegCall). HasStage g c (stages.Looking 0 false) []) (sym e) (begun g is, λ x has. Contains-none x has)
+begun-by g call is e = subst (λ (c : RegCall). HasStage g c (stages.Looking 0 false) []) (sym e) (begun g is, λ x has. absurd (Contains-none x has))
 
 -- a free slot that was read can be entered
 pub enters-fits : (g : Geom) (slot : ℕ) (s : Sector) (found : Slot) (missed : Bool) → slot < g.slots → slot_in slot s.bytes ≡ Some found → found.state ≡ Free
