@@ -1,5 +1,5 @@
 -- Where each response leads.
-use Rattle.std.proofs.Common.{◌≡◌, ◌≢◌, ℕ, ◌+◌, ◌<◌, inl, inr, Bool, true, false, List, [], ◌∷◌, Option, Some, None, refl, sym, ap, subst, ◌∙◌, arith}
+use Rattle.std.proofs.Common.{◌≡◌, ◌≢◌, ℕ, ◌+◌, ◌<◌, inl, inr, Bool, true, false, List, [], ◌∷◌, Some, None, refl, sym, ap, subst, ◌∙◌, arith}
 use Rattle.std.proofs.lemmas.Bool.{cases_eq, cases_lt}
 use Rattle.ds_base.specs.Exchanges.{Exchange, missed_at, seen_of}
 use Rattle.ds_base.specs.declared.commands.Command.{Command}
@@ -16,9 +16,8 @@ use Rattle.ds_marks.specs.declared.slot.SlotState.TheVariants.{Free}
 use Rattle.ds_reg.specs.Registering.{Entered, HasFaulted, IsDamaged, IsPassed, Missed, MissedTwice, entered_from, slot_sector}
 use Rattle.ds_marks.proofs.SlotIn.{slot_in-is}
 use Rattle.ds_reg.specs.declared.calls.RegCall.{RegCall}
-use Rattle.ds_reg.specs.Stages.{FitsGoing, GoesTo, HasStage, Passes, HasMissed, HasMissedBefore, IsEntering, IsLooking, IsUntried, MissedBefore, Reads, image_sector}
+use Rattle.ds_reg.specs.Stages.{FitsGoing, GoesTo, HasStage, Passes, HasMissed, HasMissedBefore, IsEntering, IsLooking, IsUntried, MissedBefore, image_sector}
 use Rattle.ds_reg.specs.declared.calls.RegCall.TheVariants as calls
-use Rattle.ds_reg.specs.declared.calls.RegEnd.TheVariants as ends
 use Rattle.ds_reg.specs.declared.steps.Stage.TheVariants as stages
 use Rattle.ds_reg.specs.declared.steps.Went.{Went}
 use Rattle.ds_reg.specs.declared.steps.Went.TheVariants as went
