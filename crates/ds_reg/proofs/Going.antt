@@ -23,7 +23,8 @@ use Rattle.ds_reg.specs.declared.steps.Went.{Went}
 use Rattle.ds_reg.specs.declared.steps.Went.TheVariants as went
 use Rattle.ds_reg.proofs.Showing.{Contains-first, Contains-none, count-missed, last-now, missed-later, passed-missed, passed-now, passed-read, sectors-apart, untried-past, untried-unmissed}
 
-pub faulted : (command : Command) (tick : ℕ) (xs : List Exchange) → HasFaulted (record { command = command; response = Fault; tick = tick } ∷ xs)
+pub faulted : (command : Command) (tick : ℕ) (xs : List Exchange) → HasFaulted (record { command = command; response = Fault; tick = tick }
+    ∷ xs)
 faulted command tick xs = record {
   newest = record { command = command; response = Fault; tick = tick };
   earlier = xs;
@@ -33,16 +34,28 @@ faulted command tick xs = record {
 
 -- at first no slot was passed
 pub begun : (g : Geom) → IsGeom g → IsLooking g [] 0
-begun g is = record { within = omega (arith, (is Slots).0); passed = λ before less. absurd (let none : ⊥ = omega (arith, less) in none); untried = λ after less x has. absurd (Contains-none x has) }
+begun g is = record {
+  within = omega (arith, (is Slots).0);
+  passed = λ before less. absurd (let none : ⊥ = omega (
+    arith,
+    less,
+  ) in none);
+  untried = λ after less x has. absurd (Contains-none x has);
+}
 
 pub begun-fits : (g : Geom) (call : RegCall) → IsGeom g → call ≡ calls.Enter → (0 < g.slots) × (call ≡ calls.Enter)
 begun-fits g call is e = (omega (arith, (is Slots).0), e)
 
 pub begun-by : (g : Geom) (call : RegCall) → IsGeom g → call ≡ calls.Enter → HasStage g call (stages.Looking 0 false) []
-begun-by g call is e = subst (λ (c : RegCall). HasStage g c (stages.Looking 0 false) []) (sym e) (begun g is, λ x has. absurd (Contains-none x has))
+begun-by g call is e = subst (λ (c : RegCall). HasStage g c (stages.Looking 0 false) []) (sym e) (
+  begun g is,
+  λ x has. absurd
+      (Contains-none x has),
+)
 
 -- a free slot that was read can be entered
-pub enters-fits : (g : Geom) (slot : ℕ) (s : Sector) (found : Slot) (missed : Bool) → slot < g.slots → slot_in slot s.bytes ≡ Some found → found.state ≡ Free
+pub enters-fits : (g : Geom) (slot : ℕ) (s : Sector) (found : Slot) (missed : Bool) → slot < g.slots → slot_in slot s.bytes ≡ Some found
+    → found.state ≡ Free
     → FitsGoing g calls.Enter (went.On (stages.Entering slot s found missed))
 enters-fits g slot s found missed within spelled free =
     ((within, (slot_in-is slot s.bytes found spelled).0, free, refl), λ same. absurd cc)
@@ -101,12 +114,14 @@ module _ (g : Geom) (xs : List Exchange) (slot tick : ℕ) where
   ]
 
   -- where it was the last slot, none is free
-  pub none-free : (s : Sector) (found : Slot) → slot_in slot s.bytes ≡ Some found → found.state ≢ Free → slot + 1 ≡ g.slots → IsLooking g xs slot
+  pub none-free : (s : Sector) (found : Slot) → slot_in slot s.bytes ≡ Some found → found.state ≢ Free → slot + 1 ≡ g.slots
+      → IsLooking g xs slot
       → (other : ℕ) → other < g.slots → IsPassed g (read s) other
   none-free s found spelled taken end looking other less = passed-all s found spelled taken looking other (omega (arith, less, end))
 
   -- otherwise the next slot is read
-  pub looks-next : (s : Sector) (found : Slot) → slot_in slot s.bytes ≡ Some found → found.state ≢ Free → slot + 1 ≢ g.slots → IsLooking g xs slot
+  pub looks-next : (s : Sector) (found : Slot) → slot_in slot s.bytes ≡ Some found → found.state ≢ Free → slot + 1 ≢ g.slots
+      → IsLooking g xs slot
       → IsLooking g (read s) (slot + 1) × HasMissed g (read s) (slot + 1) false
   looks-next s found spelled taken more looking = (
     record {
@@ -118,7 +133,8 @@ module _ (g : Geom) (xs : List Exchange) (slot tick : ℕ) where
   )
 
   -- past a slot that isn't free
-  pub passes : (host : List ℕ) (s : Sector) (found : Slot) (next : Went) → slot_in slot s.bytes ≡ Some found → found.state ≢ Free → IsLooking g xs slot
+  pub passes : (host : List ℕ) (s : Sector) (found : Slot) (next : Went) → slot_in slot s.bytes ≡ Some found → found.state ≢ Free
+      → IsLooking g xs slot
       → Passes g slot next → GoesTo g host calls.Enter next (read s)
   passes host s found next spelled taken looking is = elim (cases_eq (slot + 1) g.slots) [
     | inl end ↦ subst (λ n. GoesTo g host calls.Enter n (read s)) (sym (is.last end)) (none-free s found spelled taken end looking)
@@ -179,9 +195,11 @@ module _ (g : Geom) (xs : List Exchange) (slot tick : ℕ) where
       looks-again none = (
         record {
           within = entering.looking.within;
-          passed = λ before less. passed-missed g xs tick (slot_sector g slot) before offset image fresh (entering.looking.passed before less);
+          passed = λ before less. passed-missed g xs tick (slot_sector g slot) before offset image fresh (entering.looking.passed before
+              less);
           untried = λ after less.
-              untried-past xs (record { command = Swap (slot_sector g slot) image fresh; response = Miscompare offset; tick = tick }) (slot_sector g after)
+              untried-past xs (record { command = Swap (slot_sector g slot) image fresh; response = Miscompare offset; tick = tick })
+              (slot_sector g after)
               (sectors-apart g slot after (λ same. omega (arith, same, less))) (entering.looking.untried after less);
         },
         (count-missed g xs tick (slot_sector g slot) offset image fresh ∙ ap (λ (n : ℕ). n + 1) none, missed-now),

@@ -76,7 +76,8 @@ module _ (g : Geom) (xs : List Exchange) (tick : ℕ) where
       → IsPassed g (record { command = Read (slot_sector g slot); response = Got s; tick = tick } ∷ xs) before
   passed-read before slot s less passed = record {
     sector = passed.sector;
-    last = last-past (seen_of xs) (slot_sector g before) (slot_sector g slot) passed.sector s (sectors-apart g slot before (λ same. omega (arith, same, less))) passed.last;
+    last = last-past (seen_of xs) (slot_sector g before) (slot_sector g slot) passed.sector s (sectors-apart g slot before (λ same. omega
+        (arith, same, less))) passed.last;
     image = passed.image;
     spelled = passed.spelled;
     taken = passed.taken;

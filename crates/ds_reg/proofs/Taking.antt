@@ -62,7 +62,8 @@ module _ (g : Geom) (slot : ℕ) where
     found-one a b found is (Breaking by generation) e p q =
         let taken : found.state ≢ Free = λ free. (let f : ⊥ = cc in f) in passes-one a b (p.taken found is taken) (q.taken found is taken)
 
-    spelled-one : (a b : Went) (spelled : Option Slot) → slot_in slot image.bytes ≡ spelled → Reads g slot missed image a → Reads g slot missed image b
+    spelled-one : (a b : Went) (spelled : Option Slot) → slot_in slot image.bytes ≡ spelled → Reads g slot missed image a
+        → Reads g slot missed image b
         → a ≡ b
     spelled-one a b None is p q = p.damaged is ∙ sym (q.damaged is)
     spelled-one a b (Some found) is p q = found-one a b found is found.state refl p q

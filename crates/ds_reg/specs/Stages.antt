@@ -97,7 +97,8 @@ pub record IsEntering (g : Geom) (xs : List Exchange) (slot : ℕ) (image : Sect
 -- what a run at a stage has sent and heard
 abbrev pub HasStage : Geom → RegCall → Stage → List Exchange → Type 0
 HasStage g calls.Enter (stages.Looking slot missed) xs = IsLooking g xs slot × HasMissed g xs slot missed
-HasStage g calls.Enter (stages.Entering slot image found missed) xs = IsEntering g xs slot image found × HasMissedBefore g xs slot image missed
+HasStage g calls.Enter (stages.Entering slot image found missed) xs = IsEntering g xs slot image found
+    × HasMissedBefore g xs slot image missed
 HasStage g (calls.Beat slot image) stages.Own xs = xs ≡ []
 HasStage g (calls.Leave slot image) stages.Own xs = xs ≡ []
 HasStage g call stages.Over xs = ⊤
@@ -120,7 +121,8 @@ pub record Passes (g : Geom) (slot : ℕ) (next : Went) : Type 0 where
 -- a slot that was read is entered where it is free, and else passed
 pub record Reads (g : Geom) (slot : ℕ) (missed : Bool) (image : Sector) (next : Went) : Type 0 where
   pub damaged : slot_in slot image.bytes ≡ None → next ≡ went.Ended (ends.Damaged (slot_sector g slot))
-  pub free : (found : Slot) → slot_in slot image.bytes ≡ Some found → found.state ≡ Free → next ≡ went.On (stages.Entering slot image found missed)
+  pub free : (found : Slot) → slot_in slot image.bytes ≡ Some found → found.state ≡ Free
+      → next ≡ went.On (stages.Entering slot image found missed)
   pub taken : (found : Slot) → slot_in slot image.bytes ≡ Some found → found.state ≢ Free → Passes g slot next
 
 -- after the first Swap of a slot that misses it is read again, and the second ends the run

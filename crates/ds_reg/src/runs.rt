@@ -7,7 +7,8 @@ ghost use Rattle.ds_base.specs.declared.commands.Command.{Command};
 ghost use Rattle.ds_base.specs.declared.commands.Next.TheVariants as nexts;
 ghost use Rattle.ds_marks.specs.Slot.{InRanges};
 ghost use Rattle.ds_reg.specs.Registering.{slot_sector};
-ghost use Rattle.ds_reg.specs.Stages.{Agrees, FitsGoing, FitsStage, GoesTo, HasStage, IsCall, IsRun, Leads, Takes, due, image_sector, told_by};
+ghost use Rattle.ds_reg.specs.Stages.{Agrees, FitsGoing, FitsStage, GoesTo, HasStage, IsCall, IsRun, Leads, due, image_sector};
+ghost use Rattle.ds_reg.specs.Stages.{Takes, told_by};
 ghost use Rattle.ds_reg.specs.declared.steps.Stage.TheVariants as stages;
 ghost use Rattle.ds_reg.specs.declared.steps.Went.{Went};
 
@@ -161,7 +162,8 @@ impl RegRun {
         ensures call { self.new.call ≡ self.old.call }
         ensures whole { IsRun self.new }
         ensures takes { Takes self.old.geom self.old.call self.old.stage response.now (told_by result self.new.stage) }
-        ensures one { (other : Went) → Takes self.old.geom self.old.call self.old.stage response.now other → other ≡ told_by result self.new.stage }
+        ensures one { (other : Went) → Takes self.old.geom self.old.call self.old.stage response.now other
+            → other ≡ told_by result self.new.stage }
         ensures leads { (xs : List Exchange) (command : Command) → due self.old self.old.stage ≡ nexts.Send command → Agrees self.old xs
             → Leads self.new result (record { command = command; response = response.now; tick = now } ∷ xs) }
     {

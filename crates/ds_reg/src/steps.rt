@@ -6,7 +6,8 @@ ghost use Rattle.ds_base.specs.Geometry.{IsGeom};
 ghost use Rattle.ds_marks.specs.SlotIn.{slot_in};
 ghost use Rattle.ds_marks.specs.declared.slot.Slot.{Slot};
 ghost use Rattle.ds_reg.specs.Registering.{entered_from, slot_sector};
-ghost use Rattle.ds_reg.specs.Stages.{EndsOwn, FitsGoing, FitsSwap, GoesTo, HasStage, IsOwnCall, Passes, Reads, Takes, end_of, image_sector};
+ghost use Rattle.ds_reg.specs.Stages.{EndsOwn, FitsGoing, FitsSwap, GoesTo, HasStage, IsOwnCall, Passes, end_of, image_sector};
+ghost use Rattle.ds_reg.specs.Stages.{Reads, Takes};
 ghost use Rattle.ds_reg.specs.declared.steps.Stage.TheVariants as stages;
 
 use crate::calls::{RegCall, RegEnd};
