@@ -1,5 +1,6 @@
 -- Where each response leads.
-use Rattle.std.proofs.Common.{◌≡◌, ◌≢◌, ℕ, ◌+◌, ◌<◌, inl, inr, Bool, true, false, List, [], ◌∷◌, Some, None, refl, sym, ap, subst, ◌∙◌, arith}
+use Rattle.std.proofs.Common.{◌≡◌, ◌≢◌, ℕ, ◌+◌, ◌<◌, inl, inr, Bool, true, false, List, [], ◌∷◌, Some, None}
+use Rattle.std.proofs.Common.{refl, sym, ap, subst, ◌∙◌, arith}
 use Rattle.std.proofs.lemmas.Bool.{cases_eq, cases_lt}
 use Rattle.ds_base.specs.Exchanges.{Exchange, missed_at, seen_of}
 use Rattle.ds_base.specs.declared.commands.Command.{Command}
@@ -16,12 +17,14 @@ use Rattle.ds_marks.specs.declared.slot.SlotState.TheVariants.{Free}
 use Rattle.ds_reg.specs.Registering.{Entered, HasFaulted, IsDamaged, IsPassed, Missed, MissedTwice, entered_from, slot_sector}
 use Rattle.ds_marks.proofs.SlotIn.{slot_in-is}
 use Rattle.ds_reg.specs.declared.calls.RegCall.{RegCall}
-use Rattle.ds_reg.specs.Stages.{FitsGoing, GoesTo, HasStage, Passes, HasMissed, HasMissedBefore, IsEntering, IsLooking, IsUntried, MissedBefore, image_sector}
+use Rattle.ds_reg.specs.Stages.{FitsGoing, GoesTo, HasStage, Passes, HasMissed, HasMissedBefore, image_sector}
+use Rattle.ds_reg.specs.Stages.{IsEntering, IsLooking, IsUntried, MissedBefore}
 use Rattle.ds_reg.specs.declared.calls.RegCall.TheVariants as calls
 use Rattle.ds_reg.specs.declared.steps.Stage.TheVariants as stages
 use Rattle.ds_reg.specs.declared.steps.Went.{Went}
 use Rattle.ds_reg.specs.declared.steps.Went.TheVariants as went
-use Rattle.ds_reg.proofs.Showing.{Contains-first, Contains-none, count-missed, last-now, missed-later, passed-missed, passed-now, passed-read, sectors-apart, untried-past, untried-unmissed}
+use Rattle.ds_reg.proofs.Showing.{Contains-first, Contains-none, count-missed, last-now, missed-later, passed-missed, passed-now, passed-read}
+use Rattle.ds_reg.proofs.Showing.{sectors-apart, untried-past, untried-unmissed}
 
 pub faulted : (command : Command) (tick : ℕ) (xs : List Exchange) → HasFaulted (record { command = command; response = Fault; tick = tick }
     ∷ xs)

@@ -124,8 +124,10 @@ impl RegRun {
     /// Where the response leads.
     fn went(&self, response: &Response) -> Went
         requires { (command : Command) × (due self.now self.now.stage ≡ nexts.Send command) × Fits command response.now }
-        ensures goes { (tick : ℕ) (xs : List Exchange) (command : Command) → due self.now self.now.stage ≡ nexts.Send command → Agrees self.now xs
-            → GoesTo self.now.geom self.now.host self.now.call result (record { command = command; response = response.now; tick = tick } ∷ xs) }
+        ensures goes { (tick : ℕ) (xs : List Exchange) (command : Command) → due self.now self.now.stage ≡ nexts.Send command
+            → Agrees self.now xs
+            → GoesTo self.now.geom self.now.host self.now.call result
+            (record { command = command; response = response.now; tick = tick } ∷ xs) }
         ensures takes { Takes self.now.geom self.now.call self.now.stage response.now result }
         ensures fits { FitsGoing self.now.geom self.now.call result }
     {
@@ -145,7 +147,8 @@ impl RegRun {
         requires within { slot < self.now.geom.slots }
         requires image { InRanges image.now }
         requires fresh { InRanges fresh.now }
-        ensures { result ≡ nexts.Send (Command.Swap (slot_sector self.now.geom slot) (image_sector slot image.now) (image_sector slot fresh.now)) }
+        ensures { result ≡ nexts.Send
+            (Command.Swap (slot_sector self.now.geom slot) (image_sector slot image.now) (image_sector slot fresh.now)) }
     {
         Next::Send(Command::Swap {
             at: sector_of(&self.geom, &Place::Slot(slot)),

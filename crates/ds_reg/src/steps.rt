@@ -111,7 +111,8 @@ pub fn entered(
 ) -> Went
     requires within { slot < geom.now.slots }
     requires fits { FitsSwap response.now }
-    ensures goes { (host : List ℕ) (tick : ℕ) (xs : List Exchange) → HasStage geom.now RegCall.Enter (stages.Entering slot image.now found.now missed) xs
+    ensures goes { (host : List ℕ) (tick : ℕ) (xs : List Exchange)
+        → HasStage geom.now RegCall.Enter (stages.Entering slot image.now found.now missed) xs
         → GoesTo geom.now host RegCall.Enter result (record {
           command = Command.Swap (slot_sector geom.now slot) image.now (image_sector slot (entered_from host found.now));
           response = response.now;
