@@ -1,5 +1,5 @@
 //! A run for the slot of a host, command by command.
-ghost use Rattle.std.specs.Prelude.{◌≡◌, ◌<◌, ℕ, [], ◌∷◌, List};
+ghost use Rattle.std.specs.Prelude.{◌≡◌, ◌≢◌, ◌<◌, ℕ, [], ◌∷◌, List};
 ghost use Rattle.ds_base.specs.Device.{Fits};
 ghost use Rattle.ds_base.specs.Exchanges.{Exchange};
 ghost use Rattle.ds_base.specs.Geometry.{IsGeom};
@@ -48,6 +48,7 @@ impl RegRun {
         ensures host { result.host ≡ host }
         ensures call { result.call ≡ what }
         ensures whole { IsRun result }
+        ensures sends { result.stage ≢ stages.Over }
         ensures begun { Agrees result [] }
     {
         let stage = first_stage(geom, &what);
@@ -187,6 +188,7 @@ impl RegRun {
 fn first_stage(geom: &Geom, what: &RegCall) -> Stage
     requires { IsGeom geom.now }
     ensures fits { FitsStage geom.now what.now result }
+    ensures sends { result ≢ stages.Over }
     ensures begun { HasStage geom.now what.now result [] }
 {
     match what {
