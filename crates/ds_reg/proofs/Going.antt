@@ -1,6 +1,7 @@
 -- Where each response leads.
-use Rattle.std.proofs.Common.{◌≡◌, ◌≢◌, ℕ, ◌+◌, ◌<◌, inl, inr, Bool, true, false, List, [], ◌∷◌, Some, None, refl, sym, ap, subst, ◌∙◌, arith}
-use Rattle.std.proofs.lemmas.Bool.{cases_lt}
+use Rattle.std.proofs.Common.{◌≡◌, ◌≢◌, ℕ, ◌+◌, ◌<◌, inl, inr, Bool, true, false, List, [], ◌∷◌, Some, None}
+use Rattle.std.proofs.Common.{refl, sym, ap, subst, ◌∙◌, arith}
+use Rattle.std.proofs.lemmas.Bool.{cases_eq, cases_lt}
 use Rattle.ds_base.specs.Exchanges.{Exchange, missed_at, seen_of}
 use Rattle.ds_base.specs.declared.commands.Command.{Command}
 use Rattle.ds_base.specs.declared.commands.Command.TheVariants.{Read, Swap}
@@ -16,15 +17,17 @@ use Rattle.ds_marks.specs.declared.slot.SlotState.TheVariants.{Free}
 use Rattle.ds_reg.specs.Registering.{Entered, HasFaulted, IsDamaged, IsPassed, Missed, MissedTwice, entered_from, slot_sector}
 use Rattle.ds_marks.proofs.SlotIn.{slot_in-is}
 use Rattle.ds_reg.specs.declared.calls.RegCall.{RegCall}
-use Rattle.ds_reg.specs.Stages.{FitsGoing, GoesTo, HasStage, Passes, HasMissed, HasMissedBefore, IsEntering, IsLooking, MissedBefore, image_sector}
+use Rattle.ds_reg.specs.Stages.{FitsGoing, GoesTo, HasStage, Passes, HasMissed, HasMissedBefore, image_sector}
+use Rattle.ds_reg.specs.Stages.{IsEntering, IsLooking, IsUntried, MissedBefore}
 use Rattle.ds_reg.specs.declared.calls.RegCall.TheVariants as calls
-use Rattle.ds_reg.specs.declared.calls.RegEnd.TheVariants as ends
 use Rattle.ds_reg.specs.declared.steps.Stage.TheVariants as stages
 use Rattle.ds_reg.specs.declared.steps.Went.{Went}
 use Rattle.ds_reg.specs.declared.steps.Went.TheVariants as went
-use Rattle.ds_reg.proofs.Showing.{Contains-first, count-missed, count-other, last-now, missed-later, passed-missed, passed-now, passed-read, sectors-apart}
+use Rattle.ds_reg.proofs.Showing.{Contains-first, Contains-none, count-missed, last-now, missed-later, passed-missed, passed-now, passed-read}
+use Rattle.ds_reg.proofs.Showing.{sectors-apart, untried-past, untried-unmissed}
 
-pub faulted : (command : Command) (tick : ℕ) (xs : List Exchange) → HasFaulted (record { command = command; response = Fault; tick = tick } ∷ xs)
+pub faulted : (command : Command) (tick : ℕ) (xs : List Exchange) → HasFaulted (record { command = command; response = Fault; tick = tick }
+    ∷ xs)
 faulted command tick xs = record {
   newest = record { command = command; response = Fault; tick = tick };
   earlier = xs;
@@ -34,16 +37,28 @@ faulted command tick xs = record {
 
 -- at first no slot was passed
 pub begun : (g : Geom) → IsGeom g → IsLooking g [] 0
-begun g is = record { within = omega (arith, (is Slots).0); passed = λ before less. absurd (let none : ⊥ = omega (arith, less) in none); untried = λ after less. refl }
+begun g is = record {
+  within = omega (arith, (is Slots).0);
+  passed = λ before less. absurd (let none : ⊥ = omega (
+    arith,
+    less,
+  ) in none);
+  untried = λ after less x has. absurd (Contains-none x has);
+}
 
 pub begun-fits : (g : Geom) (call : RegCall) → IsGeom g → call ≡ calls.Enter → (0 < g.slots) × (call ≡ calls.Enter)
 begun-fits g call is e = (omega (arith, (is Slots).0), e)
 
 pub begun-by : (g : Geom) (call : RegCall) → IsGeom g → call ≡ calls.Enter → HasStage g call (stages.Looking 0 false) []
-begun-by g call is e = subst (λ (c : RegCall). HasStage g c (stages.Looking 0 false) []) (sym e) (begun g is, refl)
+begun-by g call is e = subst (λ (c : RegCall). HasStage g c (stages.Looking 0 false) []) (sym e) (
+  begun g is,
+  λ x has. absurd
+      (Contains-none x has),
+)
 
 -- a free slot that was read can be entered
-pub enters-fits : (g : Geom) (slot : ℕ) (s : Sector) (found : Slot) (missed : Bool) → slot < g.slots → slot_in slot s.bytes ≡ Some found → found.state ≡ Free
+pub enters-fits : (g : Geom) (slot : ℕ) (s : Sector) (found : Slot) (missed : Bool) → slot < g.slots → slot_in slot s.bytes ≡ Some found
+    → found.state ≡ Free
     → FitsGoing g calls.Enter (went.On (stages.Entering slot s found missed))
 enters-fits g slot s found missed within spelled free =
     ((within, (slot_in-is slot s.bytes found spelled).0, free, refl), λ same. absurd cc)
@@ -64,15 +79,20 @@ module _ (g : Geom) (xs : List Exchange) (slot tick : ℕ) where
     none = none;
   }
 
+  untried-read : (s : Sector) (after : ℕ) → slot < after → IsLooking g xs slot → IsUntried (read s) (slot_sector g after)
+  untried-read s after less looking =
+      untried-past xs (record { command = Read (slot_sector g slot); response = Got s; tick = tick }) (slot_sector g after)
+      (sectors-apart g slot after (λ same. omega (arith, same, less))) (looking.untried after less)
+
   looking-on : (s : Sector) → IsLooking g xs slot → IsLooking g (read s) slot
   looking-on s looking = record {
     within = looking.within;
     passed = λ before less. passed-read g xs tick before slot s less (looking.passed before less);
-    untried = looking.untried;
+    untried = λ after less. untried-read s after less looking;
   }
 
   missed-before : (s : Sector) (missed : Bool) → HasMissed g xs slot missed → HasMissedBefore g (read s) slot s missed
-  missed-before s false none = none
+  missed-before s false none = untried-unmissed (slot_sector g slot) xs none
   missed-before s true has = record {
     one = has.0;
     first = missed-later g xs tick (record { command = Read (slot_sector g slot); response = Got s; tick = tick }) slot has.1;
@@ -97,40 +117,32 @@ module _ (g : Geom) (xs : List Exchange) (slot tick : ℕ) where
   ]
 
   -- where it was the last slot, none is free
-  pub none-free : (s : Sector) (found : Slot) → slot_in slot s.bytes ≡ Some found → found.state ≢ Free → slot + 1 ≡ g.slots → IsLooking g xs slot
+  pub none-free : (s : Sector) (found : Slot) → slot_in slot s.bytes ≡ Some found → found.state ≢ Free → slot + 1 ≡ g.slots
+      → IsLooking g xs slot
       → (other : ℕ) → other < g.slots → IsPassed g (read s) other
   none-free s found spelled taken end looking other less = passed-all s found spelled taken looking other (omega (arith, less, end))
 
   -- otherwise the next slot is read
-  pub looks-next : (s : Sector) (found : Slot) → slot_in slot s.bytes ≡ Some found → found.state ≢ Free → slot + 1 ≢ g.slots → IsLooking g xs slot
+  pub looks-next : (s : Sector) (found : Slot) → slot_in slot s.bytes ≡ Some found → found.state ≢ Free → slot + 1 ≢ g.slots
+      → IsLooking g xs slot
       → IsLooking g (read s) (slot + 1) × HasMissed g (read s) (slot + 1) false
   looks-next s found spelled taken more looking = (
     record {
       within = omega (arith, looking.within, more);
       passed = λ other less. passed-all s found spelled taken looking other less;
-      untried = λ after less. looking.untried after (omega (arith, less));
+      untried = λ after less. untried-read s after (omega (arith, less)) looking;
     },
-    looking.untried (slot + 1) (omega arith),
+    untried-read s (slot + 1) (omega arith) looking,
   )
 
   -- past a slot that isn't free
-  pub passes : (host : List ℕ) (s : Sector) (found : Slot) (next : Went) → slot_in slot s.bytes ≡ Some found → found.state ≢ Free → IsLooking g xs slot
+  pub passes : (host : List ℕ) (s : Sector) (found : Slot) (next : Went) → slot_in slot s.bytes ≡ Some found → found.state ≢ Free
+      → IsLooking g xs slot
       → Passes g slot next → GoesTo g host calls.Enter next (read s)
-  passes host s found (went.On (stages.Looking next missed)) spelled taken looking is =
-      subst (λ n. HasStage g calls.Enter (stages.Looking n missed) (read s)) (sym is.0)
-      (subst (λ m. HasStage g calls.Enter (stages.Looking (slot + 1) m) (read s)) (sym is.2)
-      (looks-next s found spelled taken (λ end. omega (arith, end, is.0, is.1)) looking))
-  passes host s found (went.On (stages.Entering next image entry missed)) spelled taken looking is = absurd is
-  passes host s found (went.On stages.Own) spelled taken looking is = absurd is
-  passes host s found (went.On stages.Over) spelled taken looking is = absurd is
-  passes host s found (went.Ended ends.NoSlot) spelled taken looking is = none-free s found spelled taken is looking
-  passes host s found (went.Ended (ends.Registered other generation)) spelled taken looking is = absurd is
-  passes host s found (went.Ended (ends.Raced other)) spelled taken looking is = absurd is
-  passes host s found (went.Ended ends.Beaten) spelled taken looking is = absurd is
-  passes host s found (went.Ended ends.Left) spelled taken looking is = absurd is
-  passes host s found (went.Ended (ends.Fenced offset)) spelled taken looking is = absurd is
-  passes host s found (went.Ended (ends.Damaged sector)) spelled taken looking is = absurd is
-  passes host s found (went.Ended ends.Faulted) spelled taken looking is = absurd is
+  passes host s found next spelled taken looking is = elim (cases_eq (slot + 1) g.slots) [
+    | inl end ↦ subst (λ n. GoesTo g host calls.Enter n (read s)) (sym (is.last end)) (none-free s found spelled taken end looking)
+    | inr more ↦ subst (λ n. GoesTo g host calls.Enter n (read s)) (sym (is.more more)) (looks-next s found spelled taken more looking)
+  ]
 
   module _ (host : List ℕ) (image : Sector) (found : Slot) (entering : IsEntering g xs slot image found) where
     abbrev fresh : Sector
@@ -186,10 +198,12 @@ module _ (g : Geom) (xs : List Exchange) (slot tick : ℕ) where
       looks-again none = (
         record {
           within = entering.looking.within;
-          passed = λ before less. passed-missed g xs tick (slot_sector g slot) before offset image fresh (entering.looking.passed before less);
+          passed = λ before less. passed-missed g xs tick (slot_sector g slot) before offset image fresh (entering.looking.passed before
+              less);
           untried = λ after less.
-              count-other g xs tick (slot_sector g after) (slot_sector g slot) offset image fresh (sectors-apart g slot after (λ same. omega (arith, same, less)))
-              ∙ entering.looking.untried after less;
+              untried-past xs (record { command = Swap (slot_sector g slot) image fresh; response = Miscompare offset; tick = tick })
+              (slot_sector g after)
+              (sectors-apart g slot after (λ same. omega (arith, same, less))) (entering.looking.untried after less);
         },
         (count-missed g xs tick (slot_sector g slot) offset image fresh ∙ ap (λ (n : ℕ). n + 1) none, missed-now),
       )

@@ -1,27 +1,33 @@
 -- What one more exchange shows.
-use Rattle.std.proofs.Common.{◌≡◌, ◌≢◌, ℕ, zero, suc, ◌+◌, ◌<◌, ◌⊎◌, inl, inr, false, cond, List, [], ◌∷◌, Some, refl, ap, arith}
-use Rattle.std.specs.Prelude.{◌==◌}
+use Rattle.std.proofs.Common.{◌≡◌, ◌≢◌, ℕ, zero, suc, ◌+◌, ◌<◌, ◌⊎◌, inl, inr, false, cond, List, [], ◌∷◌, Some, refl, ap, ◌∙◌, arith}
 use Rattle.std.specs.List.{Contains}
 use Rattle.std.proofs.lemmas.Bool.{eq-eqb, ne_eqb}
-use Rattle.ds_base.specs.Exchanges.{Exchange, IsLast, missed_at, seen_of}
-use Rattle.ds_base.specs.declared.commands.Command.TheVariants.{Read, Swap}
-use Rattle.ds_base.specs.declared.commands.Response.TheVariants.{Got, Miscompare}
+use Rattle.ds_base.specs.Device.{target_of}
+use Rattle.ds_base.specs.Exchanges.{Exchange, IsLast, is_missed, missed_at, seen_of}
+use Rattle.ds_base.specs.declared.commands.Command.{Command}
+use Rattle.ds_base.specs.declared.commands.Command.TheVariants.{Read, Write, Swap}
+use Rattle.ds_base.specs.declared.commands.Response.{Response}
+use Rattle.ds_base.specs.declared.commands.Response.TheVariants.{Got, Done, Miscompare, Fault}
 use Rattle.ds_base.specs.declared.geometry.Geom.{Geom}
 use Rattle.ds_base.specs.declared.sectors.Sector.{Sector}
 use Rattle.ds_marks.specs.SlotIn.{slot_in}
 use Rattle.ds_marks.specs.declared.slot.Slot.{Slot}
 use Rattle.ds_marks.specs.declared.slot.SlotState.TheVariants.{Free}
 use Rattle.ds_reg.specs.Registering.{IsPassed, Missed, slot_sector}
+use Rattle.ds_reg.specs.Stages.{IsUntried}
 
 Contains-cases : {X : Type 0} (xs : List X) (y x : X) → Contains (y ∷ xs) x → (y ≡ x) ⊎ Contains xs x
 Contains-cases xs y x (zero, within, is) = inl is
 Contains-cases xs y x (suc k, within, is) = inr (k, omega (arith, within), is)
 
-Contains-none : {X : Type 0} (x : X) → Contains [] x → ⊥
+pub Contains-none : {X : Type 0} (x : X) → Contains [] x → ⊥
 Contains-none x (k, within, is) = omega (arith, within)
 
 pub Contains-first : {X : Type 0} (x : X) (xs : List X) → Contains (x ∷ xs) x
 Contains-first x xs = (0, omega arith, refl)
+
+Contains-more : {X : Type 0} (y : X) (xs : List X) (x : X) → Contains xs x → Contains (y ∷ xs) x
+Contains-more y xs x (k, within, is) = (suc k, omega (arith, within), is)
 
 -- what is shown now is the last
 pub last-now : (list : List (ℕ × Sector)) (at : ℕ) (s : Sector) → IsLast ((at, s) ∷ list) at s
@@ -42,13 +48,36 @@ last-past list at other s t differs last = record {
 pub sectors-apart : (g : Geom) (one other : ℕ) → one ≢ other → slot_sector g one ≢ slot_sector g other
 sectors-apart g one other differs same = differs (omega (arith, same))
 
+-- a sector that no command named stays so while another is named
+pub untried-past : (xs : List Exchange) (x : Exchange) (at : ℕ) → target_of x.command ≢ at → IsUntried xs at → IsUntried (x ∷ xs) at
+untried-past xs x at differs untried = λ y has. elim (Contains-cases xs x y has) [
+  | inl is ↦ λ same. differs (ap (λ (z : Exchange). target_of z.command) is ∙ same)
+  | inr there ↦ untried y there
+]
+
+untried-one : (at : ℕ) (command : Command) (response : Response) → target_of command ≢ at → is_missed at command response ≡ false
+untried-one at (Swap target verify fresh) (Miscompare offset) differs = ne_eqb target at differs
+untried-one at (Swap target verify fresh) (Got s) differs = refl
+untried-one at (Swap target verify fresh) Done differs = refl
+untried-one at (Swap target verify fresh) Fault differs = refl
+untried-one at (Read target) response differs = refl
+untried-one at (Write target fresh) response differs = refl
+
+-- and no Swap of it missed
+pub untried-unmissed : (at : ℕ) (xs : List Exchange) → IsUntried xs at → missed_at at xs ≡ 0
+untried-unmissed at [] untried = refl
+untried-unmissed at (x ∷ xs) untried =
+    ap (λ test. cond test (missed_at at xs + 1) (missed_at at xs)) (untried-one at x.command x.response (untried x (Contains-first x xs)))
+    ∙ untried-unmissed at xs (λ y has. untried y (Contains-more x xs y has))
+
 module _ (g : Geom) (xs : List Exchange) (tick : ℕ) where
   -- slots that were passed stay so while another slot is read
   pub passed-read : (before slot : ℕ) (s : Sector) → before < slot → IsPassed g xs before
       → IsPassed g (record { command = Read (slot_sector g slot); response = Got s; tick = tick } ∷ xs) before
   passed-read before slot s less passed = record {
     sector = passed.sector;
-    last = last-past (seen_of xs) (slot_sector g before) (slot_sector g slot) passed.sector s (sectors-apart g slot before (λ same. omega (arith, same, less))) passed.last;
+    last = last-past (seen_of xs) (slot_sector g before) (slot_sector g slot) passed.sector s (sectors-apart g slot before (λ same. omega
+        (arith, same, less))) passed.last;
     image = passed.image;
     spelled = passed.spelled;
     taken = passed.taken;
@@ -92,9 +121,3 @@ module _ (g : Geom) (xs : List Exchange) (tick : ℕ) where
   pub count-missed : (at offset : ℕ) (verify fresh : Sector)
       → missed_at at (record { command = Swap at verify fresh; response = Miscompare offset; tick = tick } ∷ xs) ≡ missed_at at xs + 1
   count-missed at offset verify fresh = ap (λ test. cond test (missed_at at xs + 1) (missed_at at xs)) (eq-eqb at at refl)
-
-  pub count-other : (at target offset : ℕ) (verify fresh : Sector) → target ≢ at
-      → missed_at at (record { command = Swap target verify fresh; response = Miscompare offset; tick = tick } ∷ xs) ≡ missed_at at xs
-  count-other at target offset verify fresh differs =
-      let none : (target == at) ≡ false = ne_eqb target at differs in
-      ap (λ test. cond test (missed_at at xs + 1) (missed_at at xs)) none

@@ -28,7 +28,13 @@ entered_from host found = record { state = Live; generation = found.generation; 
 
 -- the own slot with the next stamp
 abbrev pub beaten_from : Slot → Slot
-beaten_from image = record { state = image.state; generation = image.generation; host = image.host; stamp = image.stamp + 1; journal = image.journal }
+beaten_from image = record {
+  state = image.state;
+  generation = image.generation;
+  host = image.host;
+  stamp = image.stamp + 1;
+  journal = image.journal;
+}
 
 -- the own slot left: free, in the next generation
 abbrev pub left_from : Slot → Slot

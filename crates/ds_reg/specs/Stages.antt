@@ -1,13 +1,14 @@
 -- What a run has sent and heard at each stage, and what it sends next.
 use Rattle.std.specs.Prelude.{◌≡◌, ◌≢◌, ℕ, ◌+◌, ◌^◌, ◌<◌, Bool, true, false, List, [], Option, Some, None, ⊤}
 use Rattle.std.specs.List.{Contains}
+use Rattle.ds_base.specs.Device.{target_of}
 use Rattle.ds_base.specs.Exchanges.{Exchange, IsLast, missed_at, seen_of}
 use Rattle.ds_base.specs.Geometry.{IsGeom}
 use Rattle.ds_base.specs.declared.commands.Command.TheVariants.{Read, Swap}
 use Rattle.ds_base.specs.declared.commands.Next.{Next}
 use Rattle.ds_base.specs.declared.commands.Next.TheVariants.{Rest, Send}
 use Rattle.ds_base.specs.declared.commands.Response.{Response}
-use Rattle.ds_base.specs.declared.commands.Response.TheVariants.{Done, Miscompare, Fault}
+use Rattle.ds_base.specs.declared.commands.Response.TheVariants.{Got, Done, Miscompare, Fault}
 use Rattle.ds_base.specs.declared.geometry.Geom.{Geom}
 use Rattle.ds_base.specs.declared.sectors.Sector.{Sector}
 use Rattle.ds_marks.specs.Slot.{IsSlot, slot_bytes}
@@ -67,20 +68,24 @@ pub record MissedBefore (g : Geom) (xs : List Exchange) (slot : ℕ) (image : Se
   pub first : Missed g xs slot
   pub again : Contains (seen_of first.later) (slot_sector g slot, image)
 
--- no Swap of the slot missed so far, or one
+-- no command named this sector so far
+abbrev pub IsUntried : List Exchange → ℕ → Type 0
+IsUntried xs at = (x : Exchange) → Contains xs x → target_of x.command ≢ at
+
+-- no command named the slot so far, or one Swap of it missed
 abbrev pub HasMissed : Geom → List Exchange → ℕ → Bool → Type 0
-HasMissed g xs slot false = missed_at (slot_sector g slot) xs ≡ 0
+HasMissed g xs slot false = IsUntried xs (slot_sector g slot)
 HasMissed g xs slot true = (missed_at (slot_sector g slot) xs ≡ 1) × Missed g xs slot
 
 abbrev pub HasMissedBefore : Geom → List Exchange → ℕ → Sector → Bool → Type 0
 HasMissedBefore g xs slot image false = missed_at (slot_sector g slot) xs ≡ 0
 HasMissedBefore g xs slot image true = MissedBefore g xs slot image
 
--- the slots before this one were passed, and none from here on was swapped
+-- the slots before this one were passed, and no command named any after it
 pub record IsLooking (g : Geom) (xs : List Exchange) (slot : ℕ) : Type 0 where
   pub within : slot < g.slots
   pub passed : (before : ℕ) → before < slot → IsPassed g xs before
-  pub untried : (after : ℕ) → slot < after → missed_at (slot_sector g after) xs ≡ 0
+  pub untried : (after : ℕ) → slot < after → IsUntried xs (slot_sector g after)
 
 -- and this free image of it was shown last
 pub record IsEntering (g : Geom) (xs : List Exchange) (slot : ℕ) (image : Sector) (found : Slot) : Type 0 where
@@ -92,7 +97,8 @@ pub record IsEntering (g : Geom) (xs : List Exchange) (slot : ℕ) (image : Sect
 -- what a run at a stage has sent and heard
 abbrev pub HasStage : Geom → RegCall → Stage → List Exchange → Type 0
 HasStage g calls.Enter (stages.Looking slot missed) xs = IsLooking g xs slot × HasMissed g xs slot missed
-HasStage g calls.Enter (stages.Entering slot image found missed) xs = IsEntering g xs slot image found × HasMissedBefore g xs slot image missed
+HasStage g calls.Enter (stages.Entering slot image found missed) xs = IsEntering g xs slot image found
+    × HasMissedBefore g xs slot image missed
 HasStage g (calls.Beat slot image) stages.Own xs = xs ≡ []
 HasStage g (calls.Leave slot image) stages.Own xs = xs ≡ []
 HasStage g call stages.Over xs = ⊤
@@ -108,10 +114,21 @@ GoesTo g host call (went.On stage) xs = HasStage g call stage xs
 GoesTo g host call (went.Ended end) xs = Told g host call xs end
 
 -- past a slot the next one is read, if there is one
-abbrev pub Passes : Geom → ℕ → Went → Type 0
-Passes g slot (went.On (stages.Looking next missed)) = (next ≡ slot + 1) × (next < g.slots) × (missed ≡ false)
-Passes g slot (went.Ended ends.NoSlot) = slot + 1 ≡ g.slots
-Passes g slot other = ⊥
+pub record Passes (g : Geom) (slot : ℕ) (next : Went) : Type 0 where
+  pub last : slot + 1 ≡ g.slots → next ≡ went.Ended ends.NoSlot
+  pub more : slot + 1 ≢ g.slots → next ≡ went.On (stages.Looking (slot + 1) false)
+
+-- a slot that was read is entered where it is free, and else passed
+pub record Reads (g : Geom) (slot : ℕ) (missed : Bool) (image : Sector) (next : Went) : Type 0 where
+  pub damaged : slot_in slot image.bytes ≡ None → next ≡ went.Ended (ends.Damaged (slot_sector g slot))
+  pub free : (found : Slot) → slot_in slot image.bytes ≡ Some found → found.state ≡ Free
+      → next ≡ went.On (stages.Entering slot image found missed)
+  pub taken : (found : Slot) → slot_in slot image.bytes ≡ Some found → found.state ≢ Free → Passes g slot next
+
+-- after the first Swap of a slot that misses it is read again, and the second ends the run
+abbrev pub Misses : ℕ → Bool → Went → Type 0
+Misses slot false next = next ≡ went.On (stages.Looking slot true)
+Misses slot true next = next ≡ went.Ended (ends.Raced slot)
 
 -- a call for the own slot, and how it ends where its Swap took effect
 abbrev pub IsOwnCall : RegCall → Type 0
@@ -135,6 +152,21 @@ EndsOwn call Done next = next ≡ went.Ended (end_of call)
 EndsOwn call (Miscompare offset) next = next ≡ went.Ended (ends.Fenced offset)
 EndsOwn call Fault next = next ≡ went.Ended ends.Faulted
 EndsOwn call response next = ⊥
+
+-- where a response to what was due leads
+abbrev pub Takes : Geom → RegCall → Stage → Response → Went → Type 0
+Takes g call (stages.Looking slot missed) (Got image) next = Reads g slot missed image next
+Takes g call (stages.Looking slot missed) Fault next = next ≡ went.Ended ends.Faulted
+Takes g call (stages.Entering slot image found missed) Done next = next ≡ went.Ended (ends.Registered slot found.generation)
+Takes g call (stages.Entering slot image found missed) (Miscompare offset) next = Misses slot missed next
+Takes g call (stages.Entering slot image found missed) Fault next = next ≡ went.Ended ends.Faulted
+Takes g call stages.Own response next = EndsOwn call response next
+Takes g call stage response next = ⊥
+
+-- what a step tells: the stage that it leads to, or the end
+abbrev pub told_by : Option RegEnd → Stage → Went
+told_by None stage = went.On stage
+told_by (Some end) stage = went.Ended end
 
 -- what a stage needs for its next command
 abbrev pub FitsStage : Geom → RegCall → Stage → Type 0

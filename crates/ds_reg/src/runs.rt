@@ -1,5 +1,5 @@
 //! A run for the slot of a host, command by command.
-ghost use Rattle.std.specs.Prelude.{◌≡◌, ◌<◌, ℕ, [], ◌∷◌, List};
+ghost use Rattle.std.specs.Prelude.{◌≡◌, ◌≢◌, ◌<◌, ℕ, [], ◌∷◌, List};
 ghost use Rattle.ds_base.specs.Device.{Fits};
 ghost use Rattle.ds_base.specs.Exchanges.{Exchange};
 ghost use Rattle.ds_base.specs.Geometry.{IsGeom};
@@ -7,8 +7,10 @@ ghost use Rattle.ds_base.specs.declared.commands.Command.{Command};
 ghost use Rattle.ds_base.specs.declared.commands.Next.TheVariants as nexts;
 ghost use Rattle.ds_marks.specs.Slot.{InRanges};
 ghost use Rattle.ds_reg.specs.Registering.{slot_sector};
-ghost use Rattle.ds_reg.specs.Stages.{Agrees, FitsGoing, FitsStage, GoesTo, HasStage, IsCall, Leads, due, image_sector};
+ghost use Rattle.ds_reg.specs.Stages.{Agrees, FitsGoing, FitsStage, GoesTo, HasStage, IsCall, IsRun, Leads, due, image_sector};
+ghost use Rattle.ds_reg.specs.Stages.{Takes, told_by};
 ghost use Rattle.ds_reg.specs.declared.steps.Stage.TheVariants as stages;
+ghost use Rattle.ds_reg.specs.declared.steps.Went.{Went};
 
 use crate::calls::{RegCall, RegEnd};
 use crate::steps::{Stage, Went, entered, looked, swapped};
@@ -45,6 +47,8 @@ impl RegRun {
         ensures geom { result.geom ≡ geom.now }
         ensures host { result.host ≡ host }
         ensures call { result.call ≡ what }
+        ensures whole { IsRun result }
+        ensures sends { result.stage ≢ stages.Over }
         ensures begun { Agrees result [] }
     {
         let stage = first_stage(geom, &what);
@@ -121,8 +125,11 @@ impl RegRun {
     /// Where the response leads.
     fn went(&self, response: &Response) -> Went
         requires { (command : Command) × (due self.now self.now.stage ≡ nexts.Send command) × Fits command response.now }
-        ensures goes { (tick : ℕ) (xs : List Exchange) (command : Command) → due self.now self.now.stage ≡ nexts.Send command → Agrees self.now xs
-            → GoesTo self.now.geom self.now.host self.now.call result (record { command = command; response = response.now; tick = tick } ∷ xs) }
+        ensures goes { (tick : ℕ) (xs : List Exchange) (command : Command) → due self.now self.now.stage ≡ nexts.Send command
+            → Agrees self.now xs
+            → GoesTo self.now.geom self.now.host self.now.call result
+            (record { command = command; response = response.now; tick = tick } ∷ xs) }
+        ensures takes { Takes self.now.geom self.now.call self.now.stage response.now result }
         ensures fits { FitsGoing self.now.geom self.now.call result }
     {
         match &self.stage {
@@ -141,7 +148,8 @@ impl RegRun {
         requires within { slot < self.now.geom.slots }
         requires image { InRanges image.now }
         requires fresh { InRanges fresh.now }
-        ensures { result ≡ nexts.Send (Command.Swap (slot_sector self.now.geom slot) (image_sector slot image.now) (image_sector slot fresh.now)) }
+        ensures { result ≡ nexts.Send
+            (Command.Swap (slot_sector self.now.geom slot) (image_sector slot image.now) (image_sector slot fresh.now)) }
     {
         Next::Send(Command::Swap {
             at: sector_of(&self.geom, &Place::Slot(slot)),
@@ -156,6 +164,10 @@ impl RegRun {
         ensures geom { self.new.geom ≡ self.old.geom }
         ensures host { self.new.host ≡ self.old.host }
         ensures call { self.new.call ≡ self.old.call }
+        ensures whole { IsRun self.new }
+        ensures takes { Takes self.old.geom self.old.call self.old.stage response.now (told_by result self.new.stage) }
+        ensures one { (other : Went) → Takes self.old.geom self.old.call self.old.stage response.now other
+            → other ≡ told_by result self.new.stage }
         ensures leads { (xs : List Exchange) (command : Command) → due self.old self.old.stage ≡ nexts.Send command → Agrees self.old xs
             → Leads self.new result (record { command = command; response = response.now; tick = now } ∷ xs) }
     {
@@ -176,6 +188,7 @@ impl RegRun {
 fn first_stage(geom: &Geom, what: &RegCall) -> Stage
     requires { IsGeom geom.now }
     ensures fits { FitsStage geom.now what.now result }
+    ensures sends { result ≢ stages.Over }
     ensures begun { HasStage geom.now what.now result [] }
 {
     match what {

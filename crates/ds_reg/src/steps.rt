@@ -7,6 +7,7 @@ ghost use Rattle.ds_marks.specs.SlotIn.{slot_in};
 ghost use Rattle.ds_marks.specs.declared.slot.Slot.{Slot};
 ghost use Rattle.ds_reg.specs.Registering.{entered_from, slot_sector};
 ghost use Rattle.ds_reg.specs.Stages.{EndsOwn, FitsGoing, FitsSwap, GoesTo, HasStage, IsOwnCall, Passes, end_of, image_sector};
+ghost use Rattle.ds_reg.specs.Stages.{Reads, Takes};
 ghost use Rattle.ds_reg.specs.declared.steps.Stage.TheVariants as stages;
 
 use crate::calls::{RegCall, RegEnd};
@@ -47,6 +48,7 @@ pub fn looked(geom: &Geom, slot: SlotNo, missed: bool, response: &Response) -> W
     ensures goes { (host : List ℕ) (tick : ℕ) (xs : List Exchange) → HasStage geom.now RegCall.Enter (stages.Looking slot missed) xs
         → GoesTo geom.now host RegCall.Enter result
         (record { command = Command.Read (slot_sector geom.now slot); response = response.now; tick = tick } ∷ xs) }
+    ensures takes { Takes geom.now RegCall.Enter (stages.Looking slot missed) response.now result }
     ensures fits { FitsGoing geom.now RegCall.Enter result }
 {
     match response {
@@ -68,6 +70,7 @@ fn shown(geom: &Geom, slot: SlotNo, missed: bool, image: &Sector, found: &Slot) 
     ensures goes { (host : List ℕ) (tick : ℕ) (xs : List Exchange) → HasStage geom.now RegCall.Enter (stages.Looking slot missed) xs
         → GoesTo geom.now host RegCall.Enter result
         (record { command = Command.Read (slot_sector geom.now slot); response = Response.Got image.now; tick = tick } ∷ xs) }
+    ensures reads { Reads geom.now slot missed image.now result }
     ensures fits { FitsGoing geom.now RegCall.Enter result }
 {
     match found.state {
@@ -108,12 +111,14 @@ pub fn entered(
 ) -> Went
     requires within { slot < geom.now.slots }
     requires fits { FitsSwap response.now }
-    ensures goes { (host : List ℕ) (tick : ℕ) (xs : List Exchange) → HasStage geom.now RegCall.Enter (stages.Entering slot image.now found.now missed) xs
+    ensures goes { (host : List ℕ) (tick : ℕ) (xs : List Exchange)
+        → HasStage geom.now RegCall.Enter (stages.Entering slot image.now found.now missed) xs
         → GoesTo geom.now host RegCall.Enter result (record {
           command = Command.Swap (slot_sector geom.now slot) image.now (image_sector slot (entered_from host found.now));
           response = response.now;
           tick = tick;
         } ∷ xs) }
+    ensures takes { Takes geom.now RegCall.Enter (stages.Entering slot image.now found.now missed) response.now result }
     ensures fits { FitsGoing geom.now RegCall.Enter result }
 {
     match response {
