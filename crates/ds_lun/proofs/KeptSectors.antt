@@ -1,16 +1,16 @@
 -- The sectors of a device that keeps some of them.
-use Rattle.std.proofs.Common.{inl, inr, ◌≡◌, ℕ, ◌+◌, ◌<◌, Bool, cond, List, length, replicate, ap, sym, ◌∙◌, arith, length-set}
-use Rattle.std.specs.Prelude.{Option, Some, None, slice_get, slice_set, nat_eq, MatchOption}
+use Rattle.std.proofs.Common.{inl, inr, ◌≡◌, ℕ, zero, suc, ◌+◌, ◌<◌, ◌≤◌, Bool, true, false, cond, List, [], ◌∷◌, ◌++◌, length, replicate, refl, ap, sym, ◌∙◌, arith, length-set}
+use Rattle.std.specs.Prelude.{Option, Some, None, option_or, slice_get, slice_set, nat_eq, MatchOption}
 use Rattle.std.proofs.lemmas.Bool.Decides.{eqb_tells}
 use Rattle.std.proofs.lemmas.List.{ext_get_or, get_or-replicate, get_or-set_other, length-replicate}
 use Rattle.std.proofs.lemmas.Grind.{get_or-set_at}
 use Rattle.std.proofs.lemmas.List.FromFn.{length-map-range_with_len, get_or-map-range_with_len}
-use Rattle.std.proofs.lemmas.Option.{slice_get-get_or, get_or_from_slice_get}
+use Rattle.std.proofs.lemmas.Option.{slice_get-get_or, slice_get_past, get_or_from_slice_get}
 use Rattle.std.proofs.Math.ListN.{get_or}
 use Rattle.ds_base.specs.declared.sectors.Sector.{Sector}
 use Rattle.ds_base.specs.Device.{IsFirstDifference}
 use Rattle.ds_base.proofs.DeviceLaws.{same_from_bytes}
-use Rattle.ds_lun.specs.Devices.{zero_sector, kept_or_zero, sectors_of}
+use Rattle.ds_lun.specs.Devices.{zero_sector, kept_or_zero, held_in, sectors_of}
 
 pub length-sectors_of : (kept : ℕ → Option Sector) (n : ℕ) → length (sectors_of kept n) ≡ n
 unfolding sectors_of
@@ -65,6 +65,55 @@ sectors_of-put_zero f n at s there none is =
       | inr apart ↦ sym (ap chosen apart.0)
     ])
     (sym is)
+
+option_or-cond : (b : Bool) (s : Sector) (held beyond : Option Sector) → option_or (cond b (Some s) held) beyond ≡ cond b (Some s) (option_or held beyond)
+option_or-cond true s held beyond = refl
+option_or-cond false s held beyond = refl
+
+-- the front changes at one number
+put_in_front : (front after : List Sector) (kept : ℕ → Option Sector) (n at : ℕ) (s : Sector) → at < n
+    → ((q : ℕ) → slice_get after q ≡ cond (nat_eq at q) (Some s) (slice_get front q))
+    → sectors_of (held_in after kept) n ≡ slice_set (sectors_of (held_in front kept) n) at s
+put_in_front front after kept n at s there changes = sectors_of-put (held_in front kept) (held_in after kept) n at (Some s) s there
+    (λ q. ap (λ (o : Option Sector). option_or o (kept q)) (changes q) ∙ option_or-cond (nat_eq at q) s (slice_get front q) (kept q)) refl
+
+set_changes : (xs : List Sector) (at : ℕ) (s : Sector) → at < length xs → (q : ℕ) → slice_get (slice_set xs at s) q ≡ cond (nat_eq at q) (Some s) (slice_get xs q)
+set_changes [] at s within q = absurd (omega arith)
+set_changes (x ∷ xs) zero s within zero = refl
+set_changes (x ∷ xs) zero s within (suc q) = refl
+set_changes (x ∷ xs) (suc at) s within zero = refl
+set_changes (x ∷ xs) (suc at) s within (suc q) = set_changes xs at s (omega arith) q
+
+push_changes : (xs : List Sector) (s : Sector) (q : ℕ) → slice_get (xs ++ s ∷ []) q ≡ cond (nat_eq (length xs) q) (Some s) (slice_get xs q)
+push_changes [] s zero = refl
+push_changes [] s (suc q) = refl
+push_changes (x ∷ xs) s zero = refl
+push_changes (x ∷ xs) s (suc q) = push_changes xs s q
+
+-- a sector is put in its place in front
+pub set_in_front : (front : List Sector) (kept : ℕ → Option Sector) (n at : ℕ) (s : Sector) → at < n → at < length front
+    → sectors_of (held_in (slice_set front at s) kept) n ≡ slice_set (sectors_of (held_in front kept) n) at s
+set_in_front front kept n at s there within = put_in_front front (slice_set front at s) kept n at s there (set_changes front at s within)
+
+-- the front grows by the next sector
+pub push_in_front : (front : List Sector) (kept : ℕ → Option Sector) (n at : ℕ) (s : Sector) → at < n → at ≡ length front
+    → sectors_of (held_in (front ++ s ∷ []) kept) n ≡ slice_set (sectors_of (held_in front kept) n) at s
+push_in_front front kept n at s there next = put_in_front front (front ++ s ∷ []) kept n at s there
+    (λ q. push_changes front s q ∙ ap (λ (k : ℕ). cond (nat_eq k q) (Some s) (slice_get front q)) (sym next))
+
+-- what is kept beyond the front changes at one number
+pub put_beyond : (front : List Sector) (kept after : ℕ → Option Sector) (n at : ℕ) (w : Option Sector) (s : Sector) → at < n → length front ≤ at
+    → ((q : ℕ) → after q ≡ cond (nat_eq at q) w (kept q)) → kept_or_zero w ≡ s
+    → sectors_of (held_in front after) n ≡ slice_set (sectors_of (held_in front kept) n) at s
+put_beyond front kept after n at w s there past changes is = sectors_of-put (held_in front kept) (held_in front after) n at w s there
+    (λ q. let now : Bool → Option Sector = λ b. cond b w (kept q) in
+    let chosen : Bool → Option Sector = λ b. cond b w (held_in front kept q) in
+    elim (eqb_tells at q) [
+      | inl same ↦ ap (λ (o : Option Sector). option_or o (after q)) (ap (λ (k : ℕ). slice_get front k) (sym same.1) ∙ slice_get_past front at past)
+          ∙ changes q ∙ ap now same.0 ∙ sym (ap chosen same.0)
+      | inr apart ↦ ap (λ (o : Option Sector). option_or (slice_get front q) o) (changes q ∙ ap now apart.0) ∙ sym (ap chosen apart.0)
+    ])
+    is
 
 -- a sector with zero bytes is the zero sector
 pub is_zero_sector : (s : Sector) → s.bytes ≡ replicate 512 0 → s ≡ zero_sector
