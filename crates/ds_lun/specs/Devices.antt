@@ -1,5 +1,6 @@
 -- What contracts see of a device in memory.
-use Rattle.std.specs.Prelude.{ℕ, List, map, replicate, slice_get, option_or, Option, Some, None, if◌then◌else◌}
+use Rattle.std.specs.Prelude.{ℕ, List, map, replicate, slice_get, Option, Some, None, if◌then◌else◌}
+use Rattle.std.specs.Option.{option_or}
 use Rattle.std.specs.List.{range_with_len}
 use Rattle.ds_base.specs.declared.sectors.Sector.{Sector}
 use Rattle.ds_base.specs.declared.commands.Command.{Command}
