@@ -106,6 +106,7 @@ impl MemLun {
     }
 
     /// Does a command, and answers it: never by `Fault`. Takes no memory.
+    #[inline(always)]
     pub fn do_command(&mut self, command: &Command) -> Response
         requires there { target_of command.now < length self.old.sectors }
         requires room { 0 < self.old.spare }
@@ -116,7 +117,10 @@ impl MemLun {
         ensures spare { self.old.spare ≤ self.new.spare + writes_of self.old.sectors command.now }
     {
         match command {
-            Command::Read { at } => Response::Got(self.sector(*at)),
+            Command::Read { at } => match self.held(*at) {
+                Some(held) => Response::Got(*held),
+                None => Response::Got(Sector::zero()),
+            },
             Command::Write { at, fresh } => {
                 self.put(*at, fresh);
                 Response::Done
