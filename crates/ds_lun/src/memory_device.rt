@@ -25,7 +25,7 @@ impl Model for MemLun {
 
     ghost Value = { DeviceValue };
 
-    ghost view = { λ lun. record { sectors = sectors_of (held_in lun.front.items (get nat_eq lun.kept)) lun.len; spare = room_of lun.kept } };
+    ghost view = { λ l. record { sectors = sectors_of (held_in l.front.items (get nat_eq l.kept)) l.len; spare = room_of l.kept } };
 }
 
 impl MemLun {
