@@ -1,5 +1,6 @@
 -- What contracts see of a device in memory.
 use Rattle.std.specs.Prelude.{ℕ, List, map, replicate, slice_get, Option, Some, None, if◌then◌else◌}
+use Rattle.std.specs.Option.{option_or}
 use Rattle.std.specs.List.{range_with_len}
 use Rattle.ds_base.specs.declared.sectors.Sector.{Sector}
 use Rattle.ds_base.specs.declared.commands.Command.{Command}
@@ -19,6 +20,10 @@ zero_sector = record { bytes = replicate 512 0 }
 abbrev pub kept_or_zero : Option Sector → Sector
 kept_or_zero None = zero_sector
 kept_or_zero (Some s) = s
+
+-- the sector of a number that the front holds, or else one that is kept beyond it
+abbrev pub held_in : List Sector → (ℕ → Option Sector) → ℕ → Option Sector
+held_in front kept at = option_or (slice_get front at) (kept at)
 
 -- this many sectors, of which those that are not kept are zero
 unfoldable pub sectors_of : (ℕ → Option Sector) → ℕ → List Sector

@@ -1,29 +1,31 @@
 //! A device that keeps only the sectors in use, and the commands on it.
-ghost use Rattle.std.specs.Prelude.{◌≡◌, ◌<◌, ◌≤◌, ◌+◌, ◌^◌, ℕ, length, replicate, slice_get, slice_set, MatchOption, IfSome, IfOk, OnOk, Some, None, nat_eq};
+ghost use Rattle.std.specs.Prelude.{◌≡◌, ◌<◌, ◌≤◌, ◌+◌, ◌^◌, ℕ, length, replicate, slice_get, slice_set, MatchOption, IfSome, IfOk, OnOk, Some, None, nat_eq, option_copied};
 ghost use Rattle.ds_base.specs.Device.{stored, target_of, Answers, IsTheAnswer, IsFirstDifference};
-ghost use Rattle.ds_lun.specs.Devices.{zero_sector, writes_of};
+ghost use Rattle.ds_lun.specs.Devices.{zero_sector, kept_or_zero, writes_of};
 
-use crate::comparing::first_difference;
+use crate::comparing::{first_difference, is_zero};
 use ds_base::{Command, NoMemory, Response, Sector, SectorNo};
 use std::alloc::Global;
 use std::collections::HashMap;
 use std::marker::Model;
 
-/// A device of fewer than 2^32 sectors. It keeps only those that are, or once were, other than zero.
+/// A device of fewer than 2^32 sectors. It keeps only those that are, or once were, other than zero: the first of them without a gap in
+/// front, by their numbers, and the others in a map.
 #[derive(Drop)]
 pub struct MemLun {
     len: u32,
+    front: Vec<Sector>,
     kept: HashMap<SectorNo, Sector>,
 }
 
 impl Model for MemLun {
     ghost use Rattle.std.specs.Prelude.{nat_eq};
     ghost use Rattle.std.specs.HashMap.{get, spare as room_of};
-    ghost use Rattle.ds_lun.specs.Devices.{DeviceValue, sectors_of};
+    ghost use Rattle.ds_lun.specs.Devices.{DeviceValue, held_in, sectors_of};
 
     ghost Value = { DeviceValue };
 
-    ghost view = { λ lun. record { sectors = sectors_of (get nat_eq lun.kept) lun.len; spare = room_of lun.kept } };
+    ghost view = { λ l. record { sectors = sectors_of (held_in l.front.items (get nat_eq l.kept)) l.len; spare = room_of l.kept } };
 }
 
 impl MemLun {
@@ -47,16 +49,18 @@ impl MemLun {
     {
         Ok(MemLun {
             len,
+            front: Vec::new(alloc),
             kept: HashMap::new(alloc),
         })
     }
 
-    /// Makes room for so many sectors more. Without memory it may still have made some.
+    /// Makes room for so many sectors more. Without memory it may still have made some. Where the front gets none, the map has it.
     pub fn make_room(&mut self, sectors: u32) -> Result<(), NoMemory>
         ensures room { OnOk result (sectors ≤ self.new.spare) }
         ensures sectors { self.new.sectors ≡ self.old.sectors }
         ensures spare { self.old.spare ≤ self.new.spare }
     {
+        let _in_front = self.front.reserve(sectors as usize);
         self.kept.reserve(sectors as usize).map_err(|_| NoMemory)
     }
 
@@ -71,22 +75,38 @@ impl MemLun {
         requires { at < length self.now.sectors }
         ensures { slice_get self.now.sectors at ≡ Some result }
     {
-        match self.kept.get(&at) {
+        match self.held(at) {
             Some(held) => *held,
             None => Sector::zero(),
         }
     }
 
-    /// Makes a sector zero, and no longer keeps it. Takes no room.
+    /// The sector where it is held; `None` where it is zero and is not.
+    fn held(&self, at: SectorNo) -> Option<&Sector>
+        requires { at < length self.now.sectors }
+        ensures { slice_get self.now.sectors at ≡ Some (kept_or_zero (option_copied result)) }
+    {
+        if (at as usize) < self.front.len() {
+            return Some(&self.front[at as usize]);
+        }
+        self.kept.get(&at)
+    }
+
+    /// Makes a sector zero, and no longer keeps it, unless it is in front. Takes no room.
     pub fn zero(&mut self, at: SectorNo)
         requires { at < length self.old.sectors }
         ensures sectors { self.new.sectors ≡ slice_set self.old.sectors at zero_sector }
         ensures spare { self.old.spare ≤ self.new.spare }
     {
+        if (at as usize) < self.front.len() {
+            self.front[at as usize] = Sector::zero();
+            return;
+        }
         self.kept.remove(&at);
     }
 
     /// Does a command, and answers it: never by `Fault`. Takes no memory.
+    #[inline(always)]
     pub fn do_command(&mut self, command: &Command) -> Response
         requires there { target_of command.now < length self.old.sectors }
         requires room { 0 < self.old.spare }
@@ -97,7 +117,10 @@ impl MemLun {
         ensures spare { self.old.spare ≤ self.new.spare + writes_of self.old.sectors command.now }
     {
         match command {
-            Command::Read { at } => Response::Got(self.sector(*at)),
+            Command::Read { at } => match self.held(*at) {
+                Some(held) => Response::Got(*held),
+                None => Response::Got(Sector::zero()),
+            },
             Command::Write { at, fresh } => {
                 self.put(*at, fresh);
                 Response::Done
@@ -120,7 +143,7 @@ impl MemLun {
             × IsFirstDifference s.bytes verify.now.bytes offset) }
         ensures within { IfSome result (λ offset. offset < 512) }
     {
-        match self.kept.get(&at) {
+        match self.held(at) {
             Some(held) => first_difference(held, verify),
             None => first_difference(&Sector::zero(), verify),
         }
@@ -133,15 +156,24 @@ impl MemLun {
         ensures sectors { self.new.sectors ≡ slice_set self.old.sectors at fresh.now }
         ensures spare { self.old.spare ≤ self.new.spare + 1 }
     {
+        if (at as usize) < self.front.len() {
+            self.front[at as usize] = *fresh;
+            return;
+        }
         if let Some(held) = self.kept.get_mut(&at) {
             *held = *fresh;
             return;
         }
-        if let Some(_) = first_difference(fresh, &Sector::zero()) {
-            match self.kept.insert(at, *fresh) {
-                Ok(_) => {}
-                Err(_) => unreachable!(),
-            }
+        if is_zero(fresh) {
+            return;
+        }
+        if at as usize == self.front.len() && self.front.len() < self.front.capacity() {
+            self.front.push_reserved(*fresh);
+            return;
+        }
+        match self.kept.insert(at, *fresh) {
+            Ok(_) => {}
+            Err(_) => unreachable!(),
         }
     }
 }
