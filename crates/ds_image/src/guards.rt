@@ -7,8 +7,8 @@ ghost use Rattle.ds_layout.specs.Places.{cluster_lock, IsPlace};
 ghost use Rattle.ds_image.specs.Guards.{lister_or, guard_of, IsGuard};
 ghost use Rattle.ds_image.specs.Listers.{listed_of, listed_lists};
 ghost use Rattle.ds_layout.specs.Metadata.{IsMetadata};
-ghost use Rattle.ds_image.specs.Parts.{Parts, part_at};
-ghost use Rattle.ds_image.specs.Readings.{SpellsBody, ReadsParts};
+ghost use Rattle.ds_image_parts.specs.Parts.{Parts, part_at};
+ghost use Rattle.ds_image_parts.specs.Readings.{SpellsBody, ReadsParts};
 
 use crate::images::Image;
 use crate::listings::{ptrs_of, subs_of};

@@ -11,12 +11,12 @@ ghost use Rattle.std.specs.Prelude.{
   length,
   slice_index_or,
 };
-ghost use Rattle.ds_image.specs.Listings.{lists_by};
-ghost use Rattle.ds_image.specs.declared.listings.Listed.TheVariants as listed;
+ghost use Rattle.ds_image_parts.specs.Listings.{lists_by};
+ghost use Rattle.ds_image_parts.specs.declared.listings.Listed.TheVariants as listed;
 ghost use Rattle.ds_image.specs.ListParents.{SetsParents, AreParentsOf};
-ghost use Rattle.ds_image.specs.Objects.{is_used};
-ghost use Rattle.ds_image.specs.Owns.{Owns};
-ghost use Rattle.ds_image.specs.Parts.{part_at};
+ghost use Rattle.ds_image_parts.specs.Objects.{is_used};
+ghost use Rattle.ds_image_tables.specs.Owns.{Owns};
+ghost use Rattle.ds_image_parts.specs.Parts.{part_at};
 ghost use Rattle.ds_image.specs.Rooted.{HasRoot, named_bits, IsRooted};
 ghost use Rattle.ds_image.specs.Sound.{IsSound};
 ghost use Rattle.ds_image.specs.SoundObjects.{AreRead};

@@ -1,6 +1,6 @@
 //! Whether what each descriptor says agrees with the other parts of an image.
 ghost use Rattle.std.specs.Prelude.{◌≡◌, ◌↔◌, ℕ, drop, All, IsSome, IsTrue, IfOk, is_some};
-ghost use Rattle.ds_image.specs.Parts.{part_at};
+ghost use Rattle.ds_image_parts.specs.Parts.{part_at};
 ghost use Rattle.ds_image.specs.Sound.{IsNamedRight, AreZero};
 ghost use Rattle.ds_image.specs.SoundObjects.{AreNamesApart, count_in, IsSoundObject};
 

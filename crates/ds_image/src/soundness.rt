@@ -1,8 +1,8 @@
 //! Whether the parts of an image agree with one another.
 ghost use Rattle.std.specs.Prelude.{◌≡◌, ◌<◌, ◌^◌, ◌↔◌, ℕ, IsTrue, IfOk, length, map};
 ghost use Rattle.ds_base.specs.declared.geometry.Kind.{Kind};
-ghost use Rattle.ds_image.specs.Objects.{is_used};
-ghost use Rattle.ds_image.specs.Parts.{AllSpelled, maps_of, bits_in};
+ghost use Rattle.ds_image_parts.specs.Objects.{is_used};
+ghost use Rattle.ds_image_parts.specs.Parts.{AllSpelled, maps_of, bits_in};
 ghost use Rattle.ds_image.specs.Sound.{IsSound};
 ghost use Rattle.ds_image.specs.SoundObjects.{AreRead, IsMarked, HasShortRows};
 

@@ -1,0 +1,4 @@
+pub mod LaidOver
+pub mod Laying
+pub mod OneLogical
+pub mod Replacing

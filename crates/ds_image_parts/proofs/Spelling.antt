@@ -1,0 +1,5 @@
+pub mod BadSectors
+pub mod Decoded
+pub mod PartsRead
+pub mod Readings
+pub mod SpellingParts

@@ -1,0 +1,8 @@
+pub mod MarkedLists
+pub mod Marking
+pub mod NotedUsers
+pub mod OwnedCounts
+pub mod OwnedLists
+pub mod Owning
+pub mod OwningUsers
+pub mod RowsOfUsers

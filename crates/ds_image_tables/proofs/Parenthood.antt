@@ -1,0 +1,3 @@
+pub mod ReachedParents
+pub mod TreeParents
+pub mod WalkingParents
