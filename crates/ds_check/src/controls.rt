@@ -3,8 +3,8 @@ ghost use Rattle.std.specs.Prelude.{◌≡◌, ◌<◌, IfOk, is_some, length, s
 ghost use Rattle.ds_base.specs.Decoding.{IsDecoded};
 ghost use Rattle.ds_base.specs.Geometry.{IsGeom, clusters_of, items_of};
 ghost use Rattle.ds_layout.specs.Places.{total_of, IsLock};
-ghost use Rattle.ds_image.specs.Parts.{part_at};
-ghost use Rattle.ds_image.specs.Readings.{IsReading, SpellsSlot};
+ghost use Rattle.ds_image_parts.specs.Parts.{part_at};
+ghost use Rattle.ds_image_parts.specs.Readings.{IsReading, SpellsSlot};
 ghost use Rattle.ds_check.specs.Controls.{owners_of, SpellsId, SpellsOwner, SpellsCluster, SpellsPending, ReadsControls};
 ghost use Rattle.ds_check.specs.Journals.{targets_of};
 

@@ -12,9 +12,9 @@ ghost use Rattle.ds_image.specs.SoundObjects.{AreNamesApart};
 ghost use Rattle.ds_tree.specs.Nodes.{Dir, node_at, with_object};
 ghost use Rattle.ds_tree.specs.WellFormed.{IsTree};
 
-use crate::listings::{blocks_of, entries_in, subs_of};
-use crate::parts::PartsInMemory;
-use crate::stores::Store;
+use ds_image_parts::{blocks_of, entries_in, subs_of};
+use ds_image_parts::PartsInMemory;
+use ds_image_parts::Store;
 use ds_base::{Geom, Key, NoMemory, NodeKind, ObjNo};
 use ds_tree::{Tree, TreeBuilder};
 use std::alloc::Global;

@@ -4,10 +4,10 @@ ghost use Rattle.ds_image_parts.specs.Listings.{lists_by};
 ghost use Rattle.ds_image_tables.specs.Owns.{Owns};
 ghost use Rattle.ds_image_parts.specs.Parts.{bits_in, used_bits};
 
-use crate::listings::{Listed, list_of};
-use crate::marks::Marks;
-use crate::parts::PartsInMemory;
-use crate::stores::Store;
+use ds_image_parts::{Listed, list_of};
+use ds_image_tables::Marks;
+use ds_image_parts::PartsInMemory;
+use ds_image_parts::Store;
 use ds_base::NoMemory;
 use ds_bitmap::Bits;
 use std::alloc::Global;

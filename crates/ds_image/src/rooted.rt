@@ -21,12 +21,12 @@ ghost use Rattle.ds_image.specs.Rooted.{HasRoot, named_bits, IsRooted};
 ghost use Rattle.ds_image.specs.Sound.{IsSound};
 ghost use Rattle.ds_image.specs.SoundObjects.{AreRead};
 
-use crate::listings::{Listed, list_of};
+use ds_image_parts::{Listed, list_of};
 use crate::owners::owns;
-use crate::parents::reached;
-use crate::parts::PartsInMemory;
+use ds_image_tables::reached;
+use ds_image_parts::PartsInMemory;
 use crate::soundness::{is_used, used_of};
-use crate::stores::Store;
+use ds_image_parts::Store;
 use ds_base::{NoMemory, NodeKind};
 use ds_fd::Body;
 use std::alloc::Global;

@@ -4,9 +4,9 @@ ghost use Rattle.ds_image_parts.specs.Parts.{part_at};
 ghost use Rattle.ds_image.specs.Sound.{IsNamedRight, AreZero};
 ghost use Rattle.ds_image.specs.SoundObjects.{AreNamesApart, count_in, IsSoundObject};
 
-use crate::listings::{entries_in, pointed_by, ptrs_of, subs_of};
-use crate::parts::PartsInMemory;
-use crate::stores::Store;
+use ds_image_parts::{entries_in, pointed_by, ptrs_of, subs_of};
+use ds_image_parts::PartsInMemory;
+use ds_image_parts::Store;
 use ds_base::NoMemory;
 use ds_dir::Entry;
 use ds_fd::Body;

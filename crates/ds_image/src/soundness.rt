@@ -6,11 +6,11 @@ ghost use Rattle.ds_image_parts.specs.Parts.{AllSpelled, maps_of, bits_in};
 ghost use Rattle.ds_image.specs.Sound.{IsSound};
 ghost use Rattle.ds_image.specs.SoundObjects.{AreRead, IsMarked, HasShortRows};
 
-use crate::listings::Listed;
+use ds_image_parts::Listed;
 use crate::owners::{bits_in, owns};
-use crate::parts::PartsInMemory;
+use ds_image_parts::PartsInMemory;
 use crate::sound_objects::are_sound_objects;
-use crate::stores::Store;
+use ds_image_parts::Store;
 use ds_base::{Kind, NoMemory};
 use ds_fd::Body;
 use std::alloc::Global;

@@ -5,11 +5,11 @@ ghost use Rattle.ds_image.specs.ReadTrees.{StandsForNone};
 ghost use Rattle.ds_image.specs.Sound.{StandsFor};
 
 use crate::building::tree_of;
-use crate::images::Image;
-use crate::parts::PartsInMemory;
+use ds_image_parts::Image;
+use ds_image_parts::PartsInMemory;
 use crate::rooted::is_rooted;
 use crate::soundness::is_sound;
-use crate::stores::Store;
+use ds_image_parts::Store;
 use ds_base::NoMemory;
 use ds_tree::Tree;
 use std::alloc::Global;
