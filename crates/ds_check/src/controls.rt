@@ -138,7 +138,7 @@ impl ControlsInMemory {
 }
 
 /// The id that the file system information spells.
-#[tactic(auto, using(ds_image::proofs::Spelling::Decoded::spelled_at))]
+#[tactic(auto, using(ds_image_parts::proofs::Spelling::Decoded::spelled_at))]
 fn volume_of(geom: &Geom, sectors: &[Sector]) -> Option<Uuid>
     requires geom { IsGeom geom.now }
     requires size { length sectors.now ≡ total_of geom.now }

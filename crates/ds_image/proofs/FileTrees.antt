@@ -1,3 +1,4 @@
+-- The trees that parts spell.
 pub mod BuiltTrees
 pub mod DirNodes
 pub mod EntryNames

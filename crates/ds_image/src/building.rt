@@ -12,10 +12,8 @@ ghost use Rattle.ds_image.specs.SoundObjects.{AreNamesApart};
 ghost use Rattle.ds_tree.specs.Nodes.{Dir, node_at, with_object};
 ghost use Rattle.ds_tree.specs.WellFormed.{IsTree};
 
-use ds_image_parts::{blocks_of, entries_in, subs_of};
-use ds_image_parts::PartsInMemory;
-use ds_image_parts::Store;
 use ds_base::{Geom, Key, NoMemory, NodeKind, ObjNo};
+use ds_image_parts::{PartsInMemory, Store, blocks_of, entries_in, subs_of};
 use ds_tree::{Tree, TreeBuilder};
 use std::alloc::Global;
 

@@ -10,11 +10,9 @@ ghost use Rattle.ds_layout.specs.Metadata.{IsMetadata};
 ghost use Rattle.ds_image_parts.specs.Parts.{Parts, part_at};
 ghost use Rattle.ds_image_parts.specs.Readings.{SpellsBody, ReadsParts};
 
-use ds_image_parts::Image;
-use ds_image_parts::{ptrs_of, subs_of};
-use ds_image_parts::Store;
 use ds_base::{Geom, Kind, NodeKind, ObjNo, SectorNo};
 use ds_fd::Body;
+use ds_image_parts::{Image, Store, ptrs_of, subs_of};
 use ds_layout::{Place, cluster_lock, place_of, sector_of};
 
 /// The lock object that protects a sector: a body's descriptor, a bitmap's cluster, and for a sub-block or a pointer block

@@ -4,12 +4,10 @@ ghost use Rattle.ds_image_parts.specs.Listings.{lists_by};
 ghost use Rattle.ds_image_tables.specs.Owns.{Owns};
 ghost use Rattle.ds_image_parts.specs.Parts.{bits_in, used_bits};
 
-use ds_image_parts::{Listed, list_of};
-use ds_image_tables::Marks;
-use ds_image_parts::PartsInMemory;
-use ds_image_parts::Store;
 use ds_base::NoMemory;
 use ds_bitmap::Bits;
+use ds_image_parts::{Listed, PartsInMemory, Store, list_of};
+use ds_image_tables::Marks;
 use std::alloc::Global;
 
 /// Whether no item is listed twice, and a bit is set exactly where an item is listed.

@@ -21,14 +21,12 @@ ghost use Rattle.ds_image.specs.Rooted.{HasRoot, named_bits, IsRooted};
 ghost use Rattle.ds_image.specs.Sound.{IsSound};
 ghost use Rattle.ds_image.specs.SoundObjects.{AreRead};
 
-use ds_image_parts::{Listed, list_of};
 use crate::owners::owns;
-use ds_image_tables::reached;
-use ds_image_parts::PartsInMemory;
 use crate::soundness::{is_used, used_of};
-use ds_image_parts::Store;
 use ds_base::{NoMemory, NodeKind};
 use ds_fd::Body;
+use ds_image_parts::{Listed, PartsInMemory, Store, list_of};
+use ds_image_tables::reached;
 use std::alloc::Global;
 
 /// Whether the root is there, each used object but it has exactly one name, and all are reached from it.

@@ -4,12 +4,10 @@ ghost use Rattle.ds_image_parts.specs.Parts.{part_at};
 ghost use Rattle.ds_image.specs.Sound.{IsNamedRight, AreZero};
 ghost use Rattle.ds_image.specs.SoundObjects.{AreNamesApart, count_in, IsSoundObject};
 
-use ds_image_parts::{entries_in, pointed_by, ptrs_of, subs_of};
-use ds_image_parts::PartsInMemory;
-use ds_image_parts::Store;
 use ds_base::NoMemory;
 use ds_dir::Entry;
 use ds_fd::Body;
+use ds_image_parts::{PartsInMemory, Store, entries_in, pointed_by, ptrs_of, subs_of};
 use std::alloc::Global;
 use std::collections::BTreeSet;
 

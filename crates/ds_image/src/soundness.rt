@@ -6,13 +6,11 @@ ghost use Rattle.ds_image_parts.specs.Parts.{AllSpelled, maps_of, bits_in};
 ghost use Rattle.ds_image.specs.Sound.{IsSound};
 ghost use Rattle.ds_image.specs.SoundObjects.{AreRead, IsMarked, HasShortRows};
 
-use ds_image_parts::Listed;
 use crate::owners::{bits_in, owns};
-use ds_image_parts::PartsInMemory;
 use crate::sound_objects::are_sound_objects;
-use ds_image_parts::Store;
 use ds_base::{Kind, NoMemory};
 use ds_fd::Body;
+use ds_image_parts::{Listed, PartsInMemory, Store};
 use std::alloc::Global;
 
 /// Whether the parts that a volume spells agree with one another.

@@ -1,1 +1,2 @@
+-- Items that are listed.
 pub mod ListedItems

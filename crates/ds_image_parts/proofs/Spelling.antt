@@ -1,3 +1,4 @@
+-- What sectors spell.
 pub mod BadSectors
 pub mod Decoded
 pub mod PartsRead

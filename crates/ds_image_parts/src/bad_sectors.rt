@@ -12,7 +12,7 @@ use ds_marks::Journal;
 
 /// The least sector that is a slot or header that doesn't decode, or the index of a committed slot that isn't as it has to
 /// be; `end` is the first sector of the file blocks.
-pub fn least_bad<S: Store>(geom: &Geom, store: &S, end: SectorNo) -> Option<SectorNo>
+pub(crate) fn least_bad<S: Store>(geom: &Geom, store: &S, end: SectorNo) -> Option<SectorNo>
     requires geom { IsGeom geom.now }
     requires size { length (S.sectors store.now) ≡ total_of geom.now }
     requires end { end ≡ blocks_at geom.now }

@@ -55,7 +55,7 @@ pub enum ImageFault {
 
 impl<'a, S: Store> Image<'a, S> {
     /// The image of a store whose sectors in front of its file blocks have these in their places.
-    pub fn with_pending(
+    pub(crate) fn with_pending(
         geom: &Geom,
         store: &'a S,
         pending: BTreeMap<SectorNo, Sector>,
@@ -96,7 +96,7 @@ impl<'a, S: Store> Image<'a, S> {
 
     /// The sector of a body, a bitmap, a sub-block or a pointer block, by its place.
     #[tactic(auto, using(ds_layout::proofs::MetadataPlaces::metadata_within))]
-    pub fn sector_at(&self, place: &Place) -> Sector
+    pub(crate) fn sector_at(&self, place: &Place) -> Sector
         requires inside { IsPlace self.now.geom place.now }
         requires metadata { is_metadata place.now ≡ true }
         ensures { slice_get self.now.sectors (place_sector self.now.geom place.now) ≡ Some result }

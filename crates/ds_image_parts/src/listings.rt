@@ -49,7 +49,7 @@ fn copied(alloc: Global, items: &[u32]) -> Result<Vec<u32>, NoMemory>
 
 /// The first numbers of a list; all, where there are fewer.
 #[tactic(auto, using(std::proofs::lemmas::List::take_min))]
-pub fn first(numbers: &[u32], count: usize) -> &[u32]
+pub(crate) fn first(numbers: &[u32], count: usize) -> &[u32]
     ensures exact { result.now ≡ take count numbers.now }
     ensures within { length result.now ≤ length numbers.now }
 {

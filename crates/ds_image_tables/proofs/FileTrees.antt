@@ -1,1 +1,2 @@
+-- Names of objects, counted.
 pub mod CountedNames

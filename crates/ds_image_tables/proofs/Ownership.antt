@@ -1,3 +1,4 @@
+-- Who owns what: items that are marked and counted, and tables of their users.
 pub mod MarkedLists
 pub mod Marking
 pub mod NotedUsers

@@ -1,1 +1,2 @@
+-- Where items are.
 pub mod Places

@@ -1,3 +1,4 @@
+//! Tables of the items and objects of an image: marks, names counted, parents followed up to the root, and users.
 #![tactic(auto)]
 
 mod marks;
