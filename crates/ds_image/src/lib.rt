@@ -16,8 +16,8 @@ mod trees;
 
 pub use asks::Ask;
 pub use ds_image_parts::{
-    Image, ImageFault, PartsInMemory, Store, addresses_in, blocks_of, header_at, index_at, index_of, overlay,
-    pointer_blocks, ptrs_of, sector_at, slot_at, subs_of,
+    Image, ImageFault, PartsInMemory, Store, addresses_in, blocks_of, header_at, index_at,
+    index_of, overlay, pointer_blocks, ptrs_of, sector_at, slot_at, subs_of,
 };
 pub use ds_image_tables::{Marks, NameCounts, Users, reached};
 pub use formatting::{format, format_sparse};

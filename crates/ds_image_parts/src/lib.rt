@@ -1,5 +1,5 @@
-//! What the sectors of a volume spell: logical images, which have the pending pairs of all journals laid over the metadata, their parts, and
-//! what their descriptors list.
+//! What the sectors of a volume spell: logical images, which have the pending pairs of all journals laid over the metadata, their parts,
+//! and what descriptors list.
 #![tactic(auto)]
 
 mod bad_sectors;
@@ -12,7 +12,8 @@ mod stores;
 
 pub use images::{Image, ImageFault};
 pub use listings::{
-    Listed, addresses_in, blocks_of, entries_in, list_of, pointed_by, pointer_blocks, ptrs_of, subs_of,
+    Listed, addresses_in, blocks_of, entries_in, list_of, pointed_by, pointer_blocks, ptrs_of,
+    subs_of,
 };
 pub use logical::overlay;
 pub use parts::PartsInMemory;

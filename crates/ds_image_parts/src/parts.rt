@@ -70,6 +70,7 @@ impl<'a, S: Store> PartsInMemory<'a, S> {
         })
     }
 
+    /// The bodies of all descriptors, by their numbers; nothing where a sector spells none.
     pub fn bodies(&self) -> &[Option<Body>]
         ensures { result.now ≡ self.now.bodies }
     {
