@@ -15,12 +15,12 @@ use Rattle.ds_base.specs.declared.names.NodeKind.TheVariants as kinds
 use Rattle.ds_fd.specs.Body.{most_count}
 use Rattle.ds_fd.specs.declared.body.Body.{Body}
 use Rattle.ds_tree.specs.Counts.{pointer_blocks}
-use Rattle.ds_image.specs.Looks.{Look}
-use Rattle.ds_image.specs.Objects.{addresses_in, subs_by, ptrs_by, blocks_by, tail_by, pointed_by, subs_of, ptrs_of, blocks_of, tail_of}
-use Rattle.ds_image.specs.Parts.{Parts, part_at}
-use Rattle.ds_image.specs.Readings.{ReadsParts}
+use Rattle.ds_image_parts.specs.Looks.{Look}
+use Rattle.ds_image_parts.specs.Objects.{addresses_in, subs_by, ptrs_by, blocks_by, tail_by, pointed_by, subs_of, ptrs_of, blocks_of, tail_of}
+use Rattle.ds_image_parts.specs.Parts.{Parts, part_at}
+use Rattle.ds_image_parts.specs.Readings.{ReadsParts}
 use Rattle.ds_image.specs.Sound.{AreZero}
-use Rattle.ds_image.proofs.Spelling.Places.{at-append}
+use Rattle.ds_image_tables.proofs.Spelling.Places.{at-append}
 use Rattle.ds_image.proofs.Spelling.Sizes.{body_is, part_within}
 use Rattle.ds_check.specs.declared.findings.Find.{Find}
 use Rattle.ds_check.specs.declared.findings.Find.TheVariants.{Address, Room}

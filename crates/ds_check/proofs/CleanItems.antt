@@ -10,17 +10,17 @@ use Rattle.ds_base.specs.declared.geometry.Geom.{Geom}
 use Rattle.ds_base.specs.declared.geometry.Kind.{Kind}
 use Rattle.ds_base.specs.declared.geometry.Kind.TheVariants.{Fd, Sb, Pb, Fb}
 use Rattle.ds_fd.specs.declared.body.Body.{Body}
-use Rattle.ds_image.specs.Looks.{Look}
-use Rattle.ds_image.specs.Objects.{subs_of, ptrs_of, blocks_of, is_used}
-use Rattle.ds_image.specs.Owns.{list_of, bit, Owns}
-use Rattle.ds_image.specs.Parts.{Parts, part_at, maps_of, bits_in, AllSpelled}
-use Rattle.ds_image.specs.Readings.{ReadsParts}
+use Rattle.ds_image_parts.specs.Looks.{Look}
+use Rattle.ds_image_parts.specs.Objects.{subs_of, ptrs_of, blocks_of, is_used}
+use Rattle.ds_image_tables.specs.Owns.{list_of, bit, Owns}
+use Rattle.ds_image_parts.specs.Parts.{Parts, part_at, maps_of, bits_in, AllSpelled}
+use Rattle.ds_image_parts.specs.Readings.{ReadsParts}
 use Rattle.ds_image.specs.SoundObjects.{IsMarked}
-use Rattle.ds_image.specs.Users.{users, uses_by}
-use Rattle.ds_image.proofs.Ownership.OwningUsers as usage
+use Rattle.ds_image_tables.specs.Users.{users, uses_by}
+use Rattle.ds_image_tables.proofs.Ownership.OwningUsers as usage
 use Rattle.ds_image.proofs.Ownership.Listed.{bits_length}
-use Rattle.ds_image.proofs.Ownership.OwningUsers.{owns-from_users, AreUsedOnce}
-use Rattle.ds_image.proofs.Spelling.Places.{marked-within}
+use Rattle.ds_image_tables.proofs.Ownership.OwningUsers.{owns-from_users, AreUsedOnce}
+use Rattle.ds_image_tables.proofs.Spelling.Places.{marked-within}
 use Rattle.ds_image.proofs.Spelling.SoundParts.{list-is}
 use Rattle.ds_check.specs.declared.findings.Find.{Find}
 use Rattle.ds_check.specs.declared.findings.Find.TheVariants.{Marked, Unmarked}

@@ -9,9 +9,9 @@ use Rattle.ds_base.specs.declared.geometry.Kind.TheVariants.{Fd}
 use Rattle.ds_base.specs.declared.names.NodeKind.{NodeKind}
 use Rattle.ds_base.specs.declared.names.NodeKind.TheVariants as kinds
 use Rattle.ds_fd.specs.declared.body.Body.{Body}
-use Rattle.ds_image.specs.Looks.{Look}
-use Rattle.ds_image.specs.Parts.{Parts, part_at, maps_of, AllSpelled}
-use Rattle.ds_image.specs.Readings.{ReadsParts}
+use Rattle.ds_image_parts.specs.Looks.{Look}
+use Rattle.ds_image_parts.specs.Parts.{Parts, part_at, maps_of, AllSpelled}
+use Rattle.ds_image_parts.specs.Readings.{ReadsParts}
 use Rattle.ds_image.specs.Rooted.{HasRoot}
 use Rattle.ds_check.specs.declared.findings.Find.TheVariants.{Root}
 use Rattle.ds_check.specs.Metadata.{bitmap_form, body_form, unread, is_dir, is_root, root_finds, metadata_stage}

@@ -16,18 +16,18 @@ use Rattle.ds_base.specs.declared.names.NodeKind.{NodeKind}
 use Rattle.ds_base.specs.declared.names.NodeKind.TheVariants as kinds
 use Rattle.ds_dir.specs.declared.sub_block.Entry.{Entry}
 use Rattle.ds_fd.specs.declared.body.Body.{Body}
-use Rattle.ds_image.specs.Listings.{named_by, lists_by}
-use Rattle.ds_image.specs.declared.listings.Listed.TheVariants as listed
-use Rattle.ds_image.specs.Objects.{is_used}
-use Rattle.ds_image.specs.Owns.{Owns, bit}
-use Rattle.ds_image.specs.Parts.{Parts, part_at}
+use Rattle.ds_image_parts.specs.Listings.{named_by, lists_by}
+use Rattle.ds_image_parts.specs.declared.listings.Listed.TheVariants as listed
+use Rattle.ds_image_parts.specs.Objects.{is_used}
+use Rattle.ds_image_tables.specs.Owns.{Owns, bit}
+use Rattle.ds_image_parts.specs.Parts.{Parts, part_at}
 use Rattle.ds_image.specs.Rooted.{named_bits}
 use Rattle.ds_image.specs.Sound.{IsNamedRight, rooms_used_by}
 use Rattle.ds_image.specs.SoundObjects.{AreNamesApart}
-use Rattle.ds_image.specs.Users.{users}
-use Rattle.ds_image.proofs.Ownership.OwningUsers as usage
+use Rattle.ds_image_tables.specs.Users.{users}
+use Rattle.ds_image_tables.proofs.Ownership.OwningUsers as usage
 use Rattle.ds_image.proofs.FileTrees.NamesApart.{apart-none}
-use Rattle.ds_image.proofs.Ownership.OwningUsers.{owns-from_users, AreUsedOnce}
+use Rattle.ds_image_tables.proofs.Ownership.OwningUsers.{owns-from_users, AreUsedOnce}
 use Rattle.ds_image.proofs.FileTrees.RootedTrees.{named_bit}
 use Rattle.ds_image.proofs.Parenthood.ReachedObjects.{used-within}
 use Rattle.ds_check.specs.declared.findings.Find.TheVariants as finds

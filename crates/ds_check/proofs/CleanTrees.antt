@@ -6,12 +6,12 @@ use Rattle.ds_base.specs.declared.geometry.Geom.{Geom}
 use Rattle.ds_base.specs.declared.geometry.Kind.TheVariants.{Pb}
 use Rattle.ds_base.specs.declared.sectors.Sector.{Sector}
 use Rattle.ds_tree.specs.WellFormed.{Reached}
-use Rattle.ds_image.specs.BadSectors.{HasNoBad}
-use Rattle.ds_image.specs.ImageValues.{IsImage}
-use Rattle.ds_image.specs.Logical.{IsLogical}
-use Rattle.ds_image.specs.Objects.{addresses_in, is_used, tree_of, subs_of, ptrs_of}
-use Rattle.ds_image.specs.Parts.{Parts, part_at}
-use Rattle.ds_image.specs.Readings.{ReadsParts}
+use Rattle.ds_image_parts.specs.BadSectors.{HasNoBad}
+use Rattle.ds_image_parts.specs.ImageValues.{IsImage}
+use Rattle.ds_image_parts.specs.Logical.{IsLogical}
+use Rattle.ds_image_parts.specs.Objects.{addresses_in, is_used, tree_of, subs_of, ptrs_of}
+use Rattle.ds_image_parts.specs.Parts.{Parts, part_at}
+use Rattle.ds_image_parts.specs.Readings.{ReadsParts}
 use Rattle.ds_image.specs.ReadTrees.{StandsForNone}
 use Rattle.ds_image.specs.Rooted.{IsRooted}
 use Rattle.ds_image.specs.Sound.{IsSound, IsNamedRight, rooms_used_by, StandsFor}

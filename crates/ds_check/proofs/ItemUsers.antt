@@ -9,7 +9,7 @@ use Rattle.std.proofs.lemmas.List.Elements.{filter-append}
 use Rattle.std.proofs.lemmas.List.Folds.{flat_map-map}
 use Rattle.std.proofs.lemmas.List.FromFn.{map-range_with_len_more}
 use Rattle.ds_base.specs.declared.geometry.Kind.{Kind}
-use Rattle.ds_image.specs.Users.{users, uses_by, KnowsUsers}
+use Rattle.ds_image_tables.specs.Users.{users, uses_by, KnowsUsers}
 use Rattle.ds_check.specs.declared.findings.Find.TheVariants.{Twice}
 use Rattle.ds_check.specs.Sharing.{twice}
 

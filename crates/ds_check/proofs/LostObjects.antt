@@ -11,10 +11,10 @@ use Rattle.std.proofs.lemmas.List.Kept.{IsStrictlyIncreasing-filter}
 use Rattle.ds_base.specs.Geometry.{items_of}
 use Rattle.ds_base.specs.declared.geometry.Geom.{Geom}
 use Rattle.ds_base.specs.declared.geometry.Kind.TheVariants.{Fd}
-use Rattle.ds_image.specs.Objects.{is_used, tree_of}
-use Rattle.ds_image.specs.Parents.{AreReached}
-use Rattle.ds_image.specs.Parts.{Parts, part_at}
-use Rattle.ds_image.proofs.Parenthood.ReachedParents.{leads-iff_reached}
+use Rattle.ds_image_parts.specs.Objects.{is_used, tree_of}
+use Rattle.ds_image_tables.specs.Parents.{AreReached}
+use Rattle.ds_image_parts.specs.Parts.{Parts, part_at}
+use Rattle.ds_image_tables.proofs.Parenthood.ReachedParents.{leads-iff_reached}
 use Rattle.ds_image.proofs.Parenthood.ReachedObjects.{used-within}
 use Rattle.ds_check.specs.declared.findings.Find.{Find}
 use Rattle.ds_check.specs.declared.findings.Find.TheVariants.{Lost}

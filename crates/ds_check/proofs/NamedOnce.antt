@@ -14,10 +14,10 @@ use Rattle.ds_base.specs.declared.names.NodeKind.TheVariants as kinds
 use Rattle.ds_dir.specs.declared.sub_block.Entry.{Entry}
 use Rattle.ds_fd.specs.declared.body.Body.{Body}
 use Rattle.ds_tree.specs.WellFormed.{Names}
-use Rattle.ds_image.specs.Objects.{is_used, rooms_of, subs_of, tree_of}
-use Rattle.ds_image.specs.Parents.{parent_of}
-use Rattle.ds_image.specs.Parts.{Parts, part_at}
-use Rattle.ds_image.proofs.Parenthood.TreeParents.{AreParentsIn}
+use Rattle.ds_image_parts.specs.Objects.{is_used, rooms_of, subs_of, tree_of}
+use Rattle.ds_image_tables.specs.Parents.{parent_of}
+use Rattle.ds_image_parts.specs.Parts.{Parts, part_at}
+use Rattle.ds_image_tables.proofs.Parenthood.TreeParents.{AreParentsIn}
 use Rattle.ds_image.proofs.Parenthood.ReachedObjects.{used-within}
 use Rattle.ds_check.specs.Unreached.{named_at, times, AreNamers}
 use Rattle.ds_check.specs.declared.findings.Find.TheVariants.{Dangling, Again}

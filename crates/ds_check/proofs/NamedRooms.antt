@@ -6,8 +6,8 @@ use Rattle.std.proofs.lemmas.Grind.{flat_map-append}
 use Rattle.std.proofs.lemmas.List.{append-nil, take_more}
 use Rattle.std.proofs.lemmas.List.Elements.{filter_map-append}
 use Rattle.std.proofs.lemmas.List.Sums.{sum_by_push}
-use Rattle.ds_image.specs.NameCounts.{CountsNames}
-use Rattle.ds_image.specs.Parts.{Parts}
+use Rattle.ds_image_tables.specs.NameCounts.{CountsNames}
+use Rattle.ds_image_parts.specs.Parts.{Parts}
 use Rattle.ds_check.specs.Entries.{rooms_at}
 use Rattle.ds_check.specs.Names.{named_in}
 use Rattle.ds_check.proofs.Rows.{range-more}

@@ -5,8 +5,8 @@ use Rattle.std.specs.List.{filter_map}
 use Rattle.std.proofs.lemmas.Bool.{cases_eq, cases_lt, eq-eqb, ne_eqb}
 use Rattle.std.proofs.lemmas.List.{append-nil, length-set, length-replicate, get_or-set_same, get_or-set_other, get_or-replicate, get_or_past}
 use Rattle.std.proofs.lemmas.List.Sums.{sum_by_push}
-use Rattle.ds_image.specs.Parents.{parent_of}
-use Rattle.ds_image.specs.Parts.{Parts}
+use Rattle.ds_image_tables.specs.Parents.{parent_of}
+use Rattle.ds_image_parts.specs.Parts.{Parts}
 use Rattle.ds_check.specs.Unreached.{named_at, times, set_named, GivesParents, AreNamers}
 
 abbrev one : Bool → ℕ

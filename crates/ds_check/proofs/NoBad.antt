@@ -12,10 +12,10 @@ use Rattle.ds_layout.specs.declared.places.Place.TheVariants as places
 use Rattle.ds_marks.specs.declared.header.Owner.{Owner}
 use Rattle.ds_marks.specs.declared.slot.Slot.{Slot}
 use Rattle.ds_marks.specs.declared.slot.Journal.TheVariants.{Committed}
-use Rattle.ds_image.specs.BadSectors.{HasBadIndex, IsBadPlace, HasNoBad}
-use Rattle.ds_image.specs.Parts.{part_at}
-use Rattle.ds_image.specs.Pending.{IsIndexOf}
-use Rattle.ds_image.specs.Readings.{SpellsSlot, IsReading}
+use Rattle.ds_image_parts.specs.BadSectors.{HasBadIndex, IsBadPlace, HasNoBad}
+use Rattle.ds_image_parts.specs.Parts.{part_at}
+use Rattle.ds_image_parts.specs.Pending.{IsIndexOf}
+use Rattle.ds_image_parts.specs.Readings.{SpellsSlot, IsReading}
 use Rattle.ds_check.specs.declared.findings.Find.{Find}
 use Rattle.ds_check.specs.Controls.{Controls, owners_of, SpellsOwner, SpellsCluster, SpellsPending, ReadsControls}
 use Rattle.ds_check.specs.Findings.{AreFoundInFront}

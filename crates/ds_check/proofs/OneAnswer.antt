@@ -9,11 +9,11 @@ use Rattle.ds_base.specs.declared.sectors.Sector.{Sector}
 use Rattle.ds_layout.specs.Places.{total_of}
 use Rattle.ds_layout.specs.Volume.{vol_bytes}
 use Rattle.ds_layout.proofs.FirstSectors.{vol_same}
-use Rattle.ds_image.specs.Parts.{Parts}
-use Rattle.ds_image.specs.Readings.{ReadsParts, SpellsSlot}
-use Rattle.ds_image.proofs.Spelling.Decoded.{decoded_same, reading_same}
-use Rattle.ds_image.proofs.Journaling.OneLogical.{logical_once}
-use Rattle.ds_image.proofs.Spelling.Readings.{parts_same}
+use Rattle.ds_image_parts.specs.Parts.{Parts}
+use Rattle.ds_image_parts.specs.Readings.{ReadsParts, SpellsSlot}
+use Rattle.ds_image_parts.proofs.Spelling.Decoded.{decoded_same, reading_same}
+use Rattle.ds_image_parts.proofs.Journaling.OneLogical.{logical_once}
+use Rattle.ds_image_parts.proofs.Spelling.Readings.{parts_same}
 use Rattle.ds_check.specs.Checks.{AreFindingsOf, IsCheckFault, IsCheckAnswer, OrNoMemory}
 use Rattle.ds_check.specs.Controls.{Controls, owners_of, SpellsId, SpellsOwner, SpellsCluster, SpellsPending, ReadsControls}
 use Rattle.ds_check.specs.Findings.{AreLost, AreFoundOrLost, found_in, AreFoundIn, AreFoundBehind, AreFoundFrom, AreFoundInFront, AreFindings}

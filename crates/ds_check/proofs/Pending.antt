@@ -7,9 +7,9 @@ use Rattle.ds_jrnl.specs.declared.index.Index.{Index}
 use Rattle.ds_marks.specs.declared.header.Header.{Header}
 use Rattle.ds_marks.specs.declared.slot.Journal.TheVariants.{Idle, Committed}
 use Rattle.ds_marks.specs.declared.slot.Slot.{Slot}
-use Rattle.ds_image.specs.Pending.{IsIndexOf}
-use Rattle.ds_image.specs.Looks.{Look}
-use Rattle.ds_image.specs.Readings.{SpellsSlot, SpellsHeader}
+use Rattle.ds_image_parts.specs.Pending.{IsIndexOf}
+use Rattle.ds_image_parts.specs.Looks.{Look}
+use Rattle.ds_image_parts.specs.Readings.{SpellsSlot, SpellsHeader}
 use Rattle.ds_check.specs.Controls.{SpellsOwner, SpellsPending}
 
 -- a sector that spells no slot has none

@@ -7,8 +7,8 @@ use Rattle.ds_base.specs.Geometry.{items_of}
 use Rattle.ds_base.specs.declared.names.NodeKind.{NodeKind}
 use Rattle.ds_base.specs.declared.names.NodeKind.TheVariants as kinds
 use Rattle.ds_fd.specs.declared.body.Body.{Body}
-use Rattle.ds_image.specs.Objects.{ptrs_by, addresses_in}
-use Rattle.ds_image.specs.Parts.{Parts, part_at}
+use Rattle.ds_image_parts.specs.Objects.{ptrs_by, addresses_in}
+use Rattle.ds_image_parts.specs.Parts.{Parts, part_at}
 use Rattle.ds_ptr.specs.declared.ptr_block.PtrBlock.{PtrBlock}
 use Rattle.ds_check.specs.AddressSteps.{pointer_block, is_bad_number}
 use Rattle.ds_check.specs.Addresses.{is_outside, is_bad_block, past_last, is_first_past, is_bad_address}

@@ -7,8 +7,8 @@ use Rattle.std.proofs.lemmas.List.{get_or-map, get_or_past, length-map}
 use Rattle.ds_dir.specs.declared.sub_block.Entry.{Entry}
 use Rattle.ds_tree.specs.Nodes.{Entries, Object, unborn, object_at, node_at}
 use Rattle.ds_tree.specs.Trees as trees
-use Rattle.ds_image.specs.Objects.{object_of, tree_of, subs_of, entries_of, used_rooms}
-use Rattle.ds_image.specs.Parts.{Parts, part_at}
+use Rattle.ds_image_parts.specs.Objects.{object_of, tree_of, subs_of, entries_of, used_rooms}
+use Rattle.ds_image_parts.specs.Parts.{Parts, part_at}
 use Rattle.ds_image.proofs.FileTrees.TreeParts.{entries-of}
 use Rattle.ds_check.specs.Entries.{rooms_at}
 use Rattle.ds_check.proofs.EntryRooms.{found_in}

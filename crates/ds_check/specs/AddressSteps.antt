@@ -8,8 +8,8 @@ use Rattle.ds_base.specs.declared.names.NodeKind.{NodeKind}
 use Rattle.ds_base.specs.declared.names.NodeKind.TheVariants as kinds
 use Rattle.ds_fd.specs.declared.body.Body.{Body}
 use Rattle.ds_ptr.specs.declared.ptr_block.PtrBlock.{PtrBlock}
-use Rattle.ds_image.specs.Parts.{part_at, Parts}
-use Rattle.ds_image.specs.Objects.{subs_by, ptrs_by, addresses_in}
+use Rattle.ds_image_parts.specs.Parts.{part_at, Parts}
+use Rattle.ds_image_parts.specs.Objects.{subs_by, ptrs_by, addresses_in}
 use Rattle.ds_check.specs.Addresses.{is_outside, is_bad_block}
 
 -- a pointer block of a file, by its place among them

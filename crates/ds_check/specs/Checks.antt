@@ -3,8 +3,8 @@ use Rattle.std.specs.Prelude.{◌≡◌, ◌⊎◌, ℕ, List, Result, Ok, Err, 
 use Rattle.ds_base.specs.declared.geometry.Geom.{Geom}
 use Rattle.ds_base.specs.declared.sectors.Sector.{Sector}
 use Rattle.ds_tree.specs.Nodes.{FileTree}
-use Rattle.ds_image.specs.BadSectors.{HasNoBad}
-use Rattle.ds_image.specs.Logical.{IsLogical}
+use Rattle.ds_image_parts.specs.BadSectors.{HasNoBad}
+use Rattle.ds_image_parts.specs.Logical.{IsLogical}
 use Rattle.ds_image.specs.Sound.{StandsFor}
 use Rattle.ds_check.specs.declared.checking.CheckFault.{CheckFault}
 use Rattle.ds_check.specs.declared.checking.CheckFault.TheVariants.{NoMemory, BadImage}

@@ -15,9 +15,9 @@ use Rattle.ds_marks.specs.declared.header.Header.{Header}
 use Rattle.ds_marks.specs.declared.header.Owner.{Owner}
 use Rattle.ds_marks.specs.declared.slot.Journal.TheVariants.{Committed}
 use Rattle.ds_marks.specs.declared.slot.Slot.{Slot}
-use Rattle.ds_image.specs.Looks.{Look, HasBytes}
-use Rattle.ds_image.specs.Pending.{IsIndexOf}
-use Rattle.ds_image.specs.Readings.{SpellsSlot, SpellsHeader, IsReading}
+use Rattle.ds_image_parts.specs.Looks.{Look, HasBytes}
+use Rattle.ds_image_parts.specs.Pending.{IsIndexOf}
+use Rattle.ds_image_parts.specs.Readings.{SpellsSlot, SpellsHeader, IsReading}
 
 -- the volume's id, the slots, the owners in the headers of descriptors and of each kind's clusters, and for each slot its
 -- pending index; what a sector doesn't spell is None, and a header without owner has the owner None

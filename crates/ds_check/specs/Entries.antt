@@ -8,8 +8,8 @@ use Rattle.ds_base.specs.declared.names.NodeKind.{NodeKind}
 use Rattle.ds_base.specs.declared.names.NodeKind.TheVariants as kinds
 use Rattle.ds_dir.specs.declared.sub_block.Entry.{Entry}
 use Rattle.ds_fd.specs.declared.body.Body.{Body}
-use Rattle.ds_image.specs.Parts.{part_at, Parts}
-use Rattle.ds_image.specs.Objects.{subs_of, rooms_of}
+use Rattle.ds_image_parts.specs.Parts.{part_at, Parts}
+use Rattle.ds_image_parts.specs.Objects.{subs_of, rooms_of}
 use Rattle.ds_check.specs.declared.findings.Find.{Find}
 use Rattle.ds_check.specs.Rows.{find_if, row}
 use Rattle.ds_check.specs.declared.findings.Find.TheVariants.{Dangling, Again}

@@ -10,7 +10,7 @@ use Rattle.ds_marks.specs.declared.header.Owner.{Owner}
 use Rattle.ds_marks.specs.declared.slot.Slot.{Slot}
 use Rattle.ds_marks.specs.declared.slot.SlotState.{SlotState}
 use Rattle.ds_marks.specs.declared.slot.SlotState.TheVariants.{Free}
-use Rattle.ds_image.specs.Parts.{part_at}
+use Rattle.ds_image_parts.specs.Parts.{part_at}
 use Rattle.ds_check.specs.declared.findings.Find.{Find}
 use Rattle.ds_check.specs.declared.findings.Find.TheVariants.{SectorForm, HeaderOwner}
 use Rattle.ds_check.specs.Controls.{Controls, owners_of}

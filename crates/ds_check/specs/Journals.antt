@@ -6,7 +6,7 @@ use Rattle.ds_jrnl.specs.declared.index.Index.{Index}
 use Rattle.ds_marks.specs.declared.slot.Journal.{Journal}
 use Rattle.ds_marks.specs.declared.slot.Journal.TheVariants.{Idle, Committed}
 use Rattle.ds_marks.specs.declared.slot.Slot.{Slot}
-use Rattle.ds_image.specs.Parts.{part_at}
+use Rattle.ds_image_parts.specs.Parts.{part_at}
 use Rattle.ds_check.specs.declared.findings.Find.{Find}
 use Rattle.ds_check.specs.declared.findings.Find.TheVariants.{JournalForm, JournalsShare}
 use Rattle.ds_check.specs.Controls.{Controls}

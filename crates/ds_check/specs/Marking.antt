@@ -4,10 +4,10 @@ use Rattle.ds_base.specs.declared.geometry.Geom.{Geom}
 use Rattle.ds_base.specs.declared.geometry.Kind.{Kind}
 use Rattle.ds_base.specs.declared.geometry.Kind.TheVariants.{Fd}
 use Rattle.ds_base.specs.Geometry.{items_of}
-use Rattle.ds_image.specs.Parts.{part_at, Parts, maps_of, bits_in}
-use Rattle.ds_image.specs.Objects.{is_used}
-use Rattle.ds_image.specs.Owns.{bit}
-use Rattle.ds_image.specs.Users.{users}
+use Rattle.ds_image_parts.specs.Parts.{part_at, Parts, maps_of, bits_in}
+use Rattle.ds_image_parts.specs.Objects.{is_used}
+use Rattle.ds_image_tables.specs.Owns.{bit}
+use Rattle.ds_image_tables.specs.Users.{users}
 use Rattle.ds_check.specs.declared.findings.Find.{Find}
 use Rattle.ds_check.specs.Rows.{find_if, row, row_of_kinds}
 use Rattle.ds_check.specs.declared.findings.Find.TheVariants.{Marked, Unmarked}

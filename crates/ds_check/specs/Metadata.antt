@@ -9,7 +9,7 @@ use Rattle.ds_base.specs.declared.names.NodeKind.TheVariants as kinds
 use Rattle.ds_layout.specs.Places.{place_sector}
 use Rattle.ds_layout.specs.declared.places.Place.TheVariants as places
 use Rattle.ds_fd.specs.declared.body.Body.{Body}
-use Rattle.ds_image.specs.Parts.{part_at, Parts, maps_of}
+use Rattle.ds_image_parts.specs.Parts.{part_at, Parts, maps_of}
 use Rattle.ds_check.specs.declared.findings.Find.{Find}
 use Rattle.ds_check.specs.Rows.{find_if, row, row_of_kinds}
 use Rattle.ds_check.specs.declared.findings.Find.TheVariants.{MetaForm, Root}

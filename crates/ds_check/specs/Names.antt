@@ -5,8 +5,8 @@ use Rattle.ds_base.specs.declared.geometry.Geom.{Geom}
 use Rattle.ds_base.specs.declared.geometry.Kind.TheVariants.{Fd}
 use Rattle.ds_base.specs.Geometry.{items_of}
 use Rattle.ds_dir.specs.declared.sub_block.Entry.{Entry}
-use Rattle.ds_image.specs.Parts.{part_at, Parts}
-use Rattle.ds_image.specs.Objects.{is_used}
+use Rattle.ds_image_parts.specs.Parts.{part_at, Parts}
+use Rattle.ds_image_parts.specs.Objects.{is_used}
 use Rattle.ds_check.specs.declared.findings.Find.{Find}
 use Rattle.ds_check.specs.Rows.{find_if, row}
 use Rattle.ds_check.specs.declared.findings.Find.TheVariants.{Names}

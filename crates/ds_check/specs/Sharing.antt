@@ -3,8 +3,8 @@ use Rattle.std.specs.Prelude.{ℕ, List, [], ◌∷◌}
 use Rattle.ds_base.specs.declared.geometry.Geom.{Geom}
 use Rattle.ds_base.specs.declared.geometry.Kind.{Kind}
 use Rattle.ds_base.specs.Geometry.{items_of}
-use Rattle.ds_image.specs.Users.{users}
-use Rattle.ds_image.specs.Parts.{Parts}
+use Rattle.ds_image_tables.specs.Users.{users}
+use Rattle.ds_image_parts.specs.Parts.{Parts}
 use Rattle.ds_check.specs.declared.findings.Find.{Find}
 use Rattle.ds_check.specs.Rows.{row, row_of_kinds}
 use Rattle.ds_check.specs.declared.findings.Find.TheVariants.{Twice}

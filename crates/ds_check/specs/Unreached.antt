@@ -1,9 +1,9 @@
 -- Objects that aren't reached, and the parents of objects as they are put down.
 use Rattle.std.specs.Prelude.{ℕ, Bool, false, not, ◌==◌, ◌&&◌, List, length, Option, Some, None, slice_index_or, count_by, ◌≡◌, ◌<◌, ◌≤◌, ◌⊎◌, slice_set}
 use Rattle.std.specs.List.{filter_map}
-use Rattle.ds_image.specs.Parts.{part_at, Parts}
-use Rattle.ds_image.specs.Objects.{is_used}
-use Rattle.ds_image.specs.Parents.{parent_of}
+use Rattle.ds_image_parts.specs.Parts.{part_at, Parts}
+use Rattle.ds_image_parts.specs.Objects.{is_used}
+use Rattle.ds_image_tables.specs.Parents.{parent_of}
 use Rattle.ds_check.specs.declared.findings.Find.{Find}
 use Rattle.ds_check.specs.Rows.{find_if}
 use Rattle.ds_check.specs.declared.findings.Find.TheVariants.{Lost}

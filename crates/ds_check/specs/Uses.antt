@@ -6,8 +6,8 @@ use Rattle.ds_base.specs.declared.geometry.Kind.{Kind}
 use Rattle.ds_base.specs.declared.geometry.Kind.TheVariants.{Fd, Sb, Pb, Fb}
 use Rattle.ds_base.specs.Geometry.{items_of}
 use Rattle.ds_fd.specs.declared.body.Body.{Body}
-use Rattle.ds_image.specs.Parts.{part_at, Parts}
-use Rattle.ds_image.specs.Objects.{subs_of, ptrs_of, blocks_of}
+use Rattle.ds_image_parts.specs.Parts.{part_at, Parts}
+use Rattle.ds_image_parts.specs.Objects.{subs_of, ptrs_of, blocks_of}
 
 -- the items of a kind that an object lists
 abbrev pub items_by : Parts → Kind → Option Body → List ℕ

@@ -5,7 +5,7 @@ use Rattle.ds_base.specs.declared.sectors.Sector.{Sector}
 use Rattle.ds_layout.specs.Places.{place_sector, total_of}
 use Rattle.ds_layout.specs.declared.places.Place.TheVariants as places
 use Rattle.ds_layout.specs.Volume.{IsVol, vol_bytes}
-use Rattle.ds_image.specs.Looks.{HasBytes}
+use Rattle.ds_image_parts.specs.Looks.{HasBytes}
 
 -- the first sector is the information of a volume of this geometry and this id
 abbrev pub SpellsVolume : List Sector → Geom → List ℕ → Type 0

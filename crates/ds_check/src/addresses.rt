@@ -3,8 +3,8 @@ ghost use Rattle.std.specs.Prelude.{◌≡◌, ◌+◌, ◌/◌, ◌%◌, ◌<�
 ghost use Rattle.std.specs.List.{position_or_len};
 ghost use Rattle.ds_base.specs.Geometry.{items_of};
 ghost use Rattle.ds_base.specs.declared.names.NodeKind.TheVariants as kinds;
-ghost use Rattle.ds_image.specs.Objects.{addresses_in, ptrs_by, subs_by};
-ghost use Rattle.ds_image.specs.Parts.{part_at};
+ghost use Rattle.ds_image_parts.specs.Objects.{addresses_in, ptrs_by, subs_by};
+ghost use Rattle.ds_image_parts.specs.Parts.{part_at};
 ghost use Rattle.ds_check.specs.AddressSteps.{pointer_block, is_first_used, is_bad_number};
 ghost use Rattle.ds_check.specs.Addresses.{room_at, is_outside, is_bad_block, most_addresses, address_finds, misaddressed, room_finds, unroomed, addresses_stage};
 ghost use Rattle.ds_check.specs.Rows.{find_if};

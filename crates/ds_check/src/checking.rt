@@ -1,7 +1,7 @@
 //! The check of sectors.
 ghost use Rattle.std.specs.Prelude.{◌≡◌, List, [], Result, IfOk, IfErr, length};
 ghost use Rattle.ds_base.specs.Geometry.{IsGeom, items_of};
-ghost use Rattle.ds_image.specs.BadSectors.{HasNoBad};
+ghost use Rattle.ds_image_parts.specs.BadSectors.{HasNoBad};
 ghost use Rattle.ds_layout.specs.Places.{total_of};
 ghost use Rattle.ds_check.specs.Checks.{AreFindingsOf, IsCheckFault, IsCheckAnswer, OrNoMemory, StandsForTree, VolumeStands};
 ghost use Rattle.ds_check.specs.declared.checking.CheckFault.{CheckFault};

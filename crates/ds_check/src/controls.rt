@@ -3,8 +3,8 @@ ghost use Rattle.std.specs.Prelude.{◌≡◌, ◌<◌, IfOk, is_some, length, s
 ghost use Rattle.ds_base.specs.Decoding.{IsDecoded};
 ghost use Rattle.ds_base.specs.Geometry.{IsGeom, clusters_of, items_of};
 ghost use Rattle.ds_layout.specs.Places.{total_of, IsLock};
-ghost use Rattle.ds_image.specs.Parts.{part_at};
-ghost use Rattle.ds_image.specs.Readings.{IsReading, SpellsSlot};
+ghost use Rattle.ds_image_parts.specs.Parts.{part_at};
+ghost use Rattle.ds_image_parts.specs.Readings.{IsReading, SpellsSlot};
 ghost use Rattle.ds_check.specs.Controls.{owners_of, SpellsId, SpellsOwner, SpellsCluster, SpellsPending, ReadsControls};
 ghost use Rattle.ds_check.specs.Journals.{targets_of};
 
@@ -138,7 +138,7 @@ impl ControlsInMemory {
 }
 
 /// The id that the file system information spells.
-#[tactic(auto, using(ds_image::proofs::Spelling::Decoded::spelled_at))]
+#[tactic(auto, using(ds_image_parts::proofs::Spelling::Decoded::spelled_at))]
 fn volume_of(geom: &Geom, sectors: &[Sector]) -> Option<Uuid>
     requires geom { IsGeom geom.now }
     requires size { length sectors.now ≡ total_of geom.now }

@@ -1,6 +1,6 @@
 //! The items that the objects of an image list.
 ghost use Rattle.std.specs.Prelude.{◌≡◌, IfOk};
-ghost use Rattle.ds_image.specs.Parts.{part_at};
+ghost use Rattle.ds_image_parts.specs.Parts.{part_at};
 ghost use Rattle.ds_check.specs.Uses.{items_by};
 
 use ds_base::{Kind, NoMemory, ObjNo, Sector};

@@ -2,10 +2,10 @@
 ghost use Rattle.std.specs.Prelude.{◌≡◌, ◌++◌, ◌&&◌, not, nat_lt, length, map, OnOk, IfOk};
 ghost use Rattle.std.specs.List.{range_with_len};
 ghost use Rattle.ds_base.specs.Geometry.{items_of};
-ghost use Rattle.ds_image.specs.Objects.{is_used};
-ghost use Rattle.ds_image.specs.Owns.{bit};
-ghost use Rattle.ds_image.specs.Parts.{part_at};
-ghost use Rattle.ds_image.specs.Users.{users};
+ghost use Rattle.ds_image_parts.specs.Objects.{is_used};
+ghost use Rattle.ds_image_tables.specs.Owns.{bit};
+ghost use Rattle.ds_image_parts.specs.Parts.{part_at};
+ghost use Rattle.ds_image_tables.specs.Users.{users};
 ghost use Rattle.ds_check.specs.declared.findings.Find.TheVariants as finds;
 ghost use Rattle.ds_check.specs.Uses.{uses_of};
 ghost use Rattle.ds_check.specs.Marking.{is_in_use, mismarked, marking_stage};

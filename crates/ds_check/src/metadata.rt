@@ -1,7 +1,7 @@
 //! The third stage of a check: bodies and bitmaps.
 ghost use Rattle.std.specs.Prelude.{◌≡◌, ◌<◌, ◌++◌, is_none, Some, OnOk};
 ghost use Rattle.ds_base.specs.Geometry.{IsGeom, clusters_of, items_of};
-ghost use Rattle.ds_image.specs.Parts.{part_at};
+ghost use Rattle.ds_image_parts.specs.Parts.{part_at};
 ghost use Rattle.ds_check.specs.Rows.{row, row_of_kinds};
 ghost use Rattle.ds_check.specs.Metadata.{bitmap_form, body_form, unread, is_root, root_finds, metadata_stage};
 

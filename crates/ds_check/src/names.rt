@@ -2,9 +2,9 @@
 ghost use Rattle.std.specs.Prelude.{◌≡◌, ◌≤◌, ◌<◌, ◌-◌, ◌+◌, ◌*◌, ◌^◌, ℕ, List, [], ◌∷◌, ◌++◌, length, IfOk, OnOk};
 ghost use Rattle.std.specs.List.{filter_map};
 ghost use Rattle.ds_base.specs.Geometry.{IsGeom, items_of};
-ghost use Rattle.ds_image.specs.NameCounts.{CountsNames};
-ghost use Rattle.ds_image.specs.Objects.{is_used};
-ghost use Rattle.ds_image.specs.Parts.{part_at};
+ghost use Rattle.ds_image_tables.specs.NameCounts.{CountsNames};
+ghost use Rattle.ds_image_parts.specs.Objects.{is_used};
+ghost use Rattle.ds_image_parts.specs.Parts.{part_at};
 ghost use Rattle.ds_check.specs.Entries.{rooms_at};
 ghost use Rattle.ds_check.specs.Names.{misnamed_at, named_in, all_named, wanted_names, misnamed, naming_stage};
 

@@ -1,7 +1,7 @@
 //! The rooms of directories.
 ghost use Rattle.std.specs.Prelude.{◌≡◌, ◌≤◌, ◌++◌, length, IfOk, OnOk};
-ghost use Rattle.ds_image.specs.Objects.{subs_of, rooms_in, rooms_of};
-ghost use Rattle.ds_image.specs.Parts.{part_at};
+ghost use Rattle.ds_image_parts.specs.Objects.{subs_of, rooms_in, rooms_of};
+ghost use Rattle.ds_image_parts.specs.Parts.{part_at};
 ghost use Rattle.ds_check.specs.Entries.{rooms_at};
 
 use crate::listed::body_at;

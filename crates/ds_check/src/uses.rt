@@ -1,8 +1,8 @@
 //! Which objects use the items of an image.
 ghost use Rattle.std.specs.Prelude.{◌≡◌, ◌++◌, ◌∷◌, [], ℕ, List, length, IfOk, OnOk};
 ghost use Rattle.ds_base.specs.Geometry.{items_of};
-ghost use Rattle.ds_image.specs.Parts.{part_at};
-ghost use Rattle.ds_image.specs.Users.{uses_by, KnowsUsers};
+ghost use Rattle.ds_image_parts.specs.Parts.{part_at};
+ghost use Rattle.ds_image_tables.specs.Users.{uses_by, KnowsUsers};
 ghost use Rattle.ds_check.specs.Uses.{items_by, uses_of};
 
 use crate::controls::descriptor_count;

@@ -10,11 +10,11 @@ use Rattle.ds_base.specs.Geometry.{clusters_of, per_cluster}
 use Rattle.ds_base.specs.declared.geometry.Geom.{Geom}
 use Rattle.ds_base.specs.declared.geometry.Kind.{Kind}
 use Rattle.ds_bitmap.specs.Bits.{Bitmap}
-use Rattle.ds_image.specs.Looks.{Look}
-use Rattle.ds_image.specs.Parts.{part_at, AllSpelled, used_bits, bits_in}
-use Rattle.ds_image.specs.Readings.{SpellsBits, IsReading}
+use Rattle.ds_image_parts.specs.Looks.{Look}
+use Rattle.ds_image_parts.specs.Parts.{part_at, AllSpelled, used_bits, bits_in}
+use Rattle.ds_image_parts.specs.Readings.{SpellsBits, IsReading}
 use Rattle.ds_image.proofs.Ownership.Listed.{bits_length}
-use Rattle.ds_image.proofs.Ownership.OwnedCounts.{marked_count}
+use Rattle.ds_image_tables.proofs.Ownership.OwnedCounts.{marked_count}
 use Rattle.ds_image.proofs.Spelling.Sizes.{part_within}
 
 -- Rows of one width, one after another

@@ -1,6 +1,5 @@
 -- The trees that parts spell.
 pub mod BuiltTrees
-pub mod CountedNames
 pub mod DirNodes
 pub mod EntryNames
 pub mod NamesApart

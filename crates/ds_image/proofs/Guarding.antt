@@ -15,11 +15,11 @@ use Rattle.ds_layout.specs.declared.places.Place.TheVariants as places
 use Rattle.ds_layout.proofs.SamePlace.{same_place}
 use Rattle.ds_image.specs.Guards.{least_lister, lister_or, guard_of, IsGuard}
 use Rattle.ds_image.specs.Listers.{listed_of, listed_lists}
-use Rattle.ds_image.specs.Looks.{Look, AreBlocks}
+use Rattle.ds_image_parts.specs.Looks.{Look, AreBlocks}
 use Rattle.ds_layout.specs.Metadata.{IsMetadata, is_metadata}
-use Rattle.ds_image.specs.Parts.{Parts, part_at}
-use Rattle.ds_image.specs.Readings.{ReadsParts}
-use Rattle.ds_image.proofs.Spelling.Readings.{parts_there}
+use Rattle.ds_image_parts.specs.Parts.{Parts, part_at}
+use Rattle.ds_image_parts.specs.Readings.{ReadsParts}
+use Rattle.ds_image_parts.proofs.Spelling.Readings.{parts_there}
 
 -- whether a descriptor of the kind lists the item
 abbrev lists_item : NodeKind → Parts → ℕ → ℕ → Bool

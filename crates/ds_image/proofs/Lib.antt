@@ -1,7 +1,6 @@
 pub mod Bits
 pub mod FileTrees
 pub mod Guarding
-pub mod Journaling
 pub mod MarksByCluster
 pub mod NewVolumes
 pub mod Ownership

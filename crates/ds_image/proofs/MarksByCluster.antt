@@ -9,13 +9,13 @@ use Rattle.ds_base.specs.declared.geometry.Geom.{Geom}
 use Rattle.ds_base.specs.declared.geometry.Kind.{Kind}
 use Rattle.ds_bitmap.specs.Bits.{Bitmap}
 use Rattle.ds_layout.proofs.Bounds.{block_numbered}
-use Rattle.ds_image.specs.Looks.{Look}
-use Rattle.ds_image.specs.Owned.{AddsMarks}
-use Rattle.ds_image.specs.Owns.{bit}
-use Rattle.ds_image.specs.Parts.{part_at, AllSpelled, used_bits, bits_in}
-use Rattle.ds_image.specs.Readings.{SpellsBits, IsReading}
+use Rattle.ds_image_parts.specs.Looks.{Look}
+use Rattle.ds_image_tables.specs.Owned.{AddsMarks}
+use Rattle.ds_image_tables.specs.Owns.{bit}
+use Rattle.ds_image_parts.specs.Parts.{part_at, AllSpelled, used_bits, bits_in}
+use Rattle.ds_image_parts.specs.Readings.{SpellsBits, IsReading}
 use Rattle.ds_image.proofs.Ownership.Listed.{bits_length}
-use Rattle.ds_image.proofs.Ownership.Marking.{ClearsMarks}
+use Rattle.ds_image_tables.proofs.Ownership.Marking.{ClearsMarks}
 use Rattle.ds_image.proofs.Bits.{flat-get, maps-wide}
 
 module _ (g : Geom) (look look' : Look) (kind : Kind) (maps maps' : List (Option Bitmap))

@@ -1,6 +1,3 @@
 -- Parents of objects, and what is reached by them.
 pub mod ListParents
 pub mod ReachedObjects
-pub mod ReachedParents
-pub mod TreeParents
-pub mod WalkingParents

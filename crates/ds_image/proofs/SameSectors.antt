@@ -16,10 +16,10 @@ use Rattle.ds_ptr.specs.PtrBlock.{ptr_bytes}
 use Rattle.ds_ptr.specs.declared.ptr_block.PtrBlock.{PtrBlock}
 use Rattle.ds_marks.specs.Header.{header_bytes}
 use Rattle.ds_marks.specs.declared.header.Header.{Header}
-use Rattle.ds_image.specs.Looks.{Look, HasBytes}
-use Rattle.ds_image.specs.Readings.{SpellsSlot, SpellsHeader, SpellsBody, SpellsBits, SpellsSub, SpellsPtr, IsReading}
-use Rattle.ds_image.specs.Parts.{part_at}
-use Rattle.ds_image.proofs.Spelling.Decoded.{decoded_as}
+use Rattle.ds_image_parts.specs.Looks.{Look, HasBytes}
+use Rattle.ds_image_parts.specs.Readings.{SpellsSlot, SpellsHeader, SpellsBody, SpellsBits, SpellsSub, SpellsPtr, IsReading}
+use Rattle.ds_image_parts.specs.Parts.{part_at}
+use Rattle.ds_image_parts.proofs.Spelling.Decoded.{decoded_as}
 
 pub has-same : (look look' : Look) (at : ℕ) (bytes : List ℕ) → look at ≡ look' at → HasBytes look at bytes → HasBytes look' at bytes
 has-same look look' at bytes same has = subst (λ (o : Option Sector). (s : Sector) × (o ≡ Some s) × (s.bytes ≡ bytes)) same has

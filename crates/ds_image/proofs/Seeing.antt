@@ -6,12 +6,12 @@ use Rattle.std.specs.Option.{option_or}
 use Rattle.ds_base.specs.Geometry.{IsGeom}
 use Rattle.ds_base.specs.declared.geometry.Geom.{Geom}
 use Rattle.ds_base.specs.declared.sectors.Sector.{Sector}
-use Rattle.ds_image.specs.Looks.{AreBlocks, IsBlock}
-use Rattle.ds_image.specs.Pending.{Pair}
-use Rattle.ds_image.specs.Parts.{Parts}
-use Rattle.ds_image.specs.Readings.{ReadsParts}
+use Rattle.ds_image_parts.specs.Looks.{AreBlocks, IsBlock}
+use Rattle.ds_image_parts.specs.Pending.{Pair}
+use Rattle.ds_image_parts.specs.Parts.{Parts}
+use Rattle.ds_image_parts.specs.Readings.{ReadsParts}
 use Rattle.ds_image.specs.SeenValues.{SeenValue, look_of, sector_in, with_sector, IsSeen}
-use Rattle.ds_image.proofs.Spelling.Readings.{parts_there}
+use Rattle.ds_image_parts.proofs.Spelling.Readings.{parts_there}
 
 choice : {X : Type 0} (test : Bool) (x : X) (rest others : Option X)
     → (if test then Some x else option_or rest others) ≡ option_or (if test then Some x else rest) others

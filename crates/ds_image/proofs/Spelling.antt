@@ -1,10 +1,4 @@
--- What sectors spell: parts, and what their descriptors say.
-pub mod BadSectors
-pub mod Decoded
+-- What sectors spell, as far as the parts agree: their sizes, and what their descriptors say.
 pub mod ObjectSound
-pub mod PartsRead
-pub mod Places
-pub mod Readings
 pub mod Sizes
 pub mod SoundParts
-pub mod SpellingParts

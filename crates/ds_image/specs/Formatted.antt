@@ -19,7 +19,7 @@ use Rattle.ds_marks.specs.declared.header.Header.{Header}
 use Rattle.ds_marks.specs.declared.slot.Slot.{Slot}
 use Rattle.ds_marks.specs.declared.slot.SlotState.TheVariants.{Free}
 use Rattle.ds_marks.specs.declared.slot.Journal.TheVariants.{Idle}
-use Rattle.ds_image.specs.Looks.{HasBytes}
+use Rattle.ds_image_parts.specs.Looks.{HasBytes}
 
 -- a slot that nobody has, in generation 1
 abbrev pub fresh_slot : Slot

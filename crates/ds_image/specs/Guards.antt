@@ -7,9 +7,9 @@ use Rattle.ds_base.specs.Geometry.{per_cluster}
 use Rattle.ds_layout.specs.Places.{cluster_lock, IsPlace, place_sector}
 use Rattle.ds_layout.specs.declared.places.Place.{Place}
 use Rattle.ds_layout.specs.declared.places.Place.TheVariants.{Bitmap, Body, SubBlock, PtrBlock}
-use Rattle.ds_image.specs.Looks.{Look}
-use Rattle.ds_image.specs.Parts.{Parts}
-use Rattle.ds_image.specs.Readings.{ReadsParts}
+use Rattle.ds_image_parts.specs.Looks.{Look}
+use Rattle.ds_image_parts.specs.Parts.{Parts}
+use Rattle.ds_image_parts.specs.Readings.{ReadsParts}
 use Rattle.ds_image.specs.Sound.{sub_lists, ptr_lists}
 
 -- the least descriptor that lists an item, or the number of descriptors where none does

@@ -1,7 +1,7 @@
 -- The parent of each object that a directory names, as it is put down.
 use Rattle.std.specs.Prelude.{◌≡◌, ℕ, ◌<◌, ◌⊎◌, List, length, slice_get, Option, Some}
-use Rattle.ds_image.specs.Owns.{IsAt}
-use Rattle.ds_image.specs.Parents.{parent_of}
+use Rattle.ds_image_tables.specs.Owns.{IsAt}
+use Rattle.ds_image_tables.specs.Parents.{parent_of}
 
 -- these objects have this parent, and all others what they had
 pub record SetsParents (old : List (Option ℕ)) (named : List ℕ) (dir : ℕ) (new : List (Option ℕ)) : Type 0 where

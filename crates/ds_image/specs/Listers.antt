@@ -3,8 +3,8 @@ use Rattle.std.specs.Prelude.{ℕ, List, map, Option}
 use Rattle.ds_base.specs.declared.names.NodeKind.{NodeKind}
 use Rattle.ds_base.specs.declared.names.NodeKind.TheVariants as kinds
 use Rattle.ds_fd.specs.declared.body.Body.{Body}
-use Rattle.ds_image.specs.Objects.{subs_of, ptrs_of}
-use Rattle.ds_image.specs.Parts.{Parts}
+use Rattle.ds_image_parts.specs.Objects.{subs_of, ptrs_of}
+use Rattle.ds_image_parts.specs.Parts.{Parts}
 
 -- a directory lists sub-blocks, and a file pointer blocks
 abbrev pub listed_of : NodeKind → Option Body → List ℕ

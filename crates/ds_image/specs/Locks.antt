@@ -11,8 +11,8 @@ use Rattle.ds_base.specs.Geometry.{clusters_of, per_cluster, items_of}
 use Rattle.ds_bitmap.specs.Bits.{Bitmap}
 use Rattle.ds_dir.specs.declared.sub_block.Entry.{Entry}
 use Rattle.ds_fd.specs.declared.body.Body.{Body}
-use Rattle.ds_image.specs.Objects.{subs_of, ptrs_of, addresses_in, used_rooms, entry_named}
-use Rattle.ds_image.specs.Parts.{Parts, part_at, maps_of, used_bits}
+use Rattle.ds_image_parts.specs.Objects.{subs_of, ptrs_of, addresses_in, used_rooms, entry_named}
+use Rattle.ds_image_parts.specs.Parts.{Parts, part_at, maps_of, used_bits}
 use Rattle.ds_image.specs.declared.asks.Ask.{Ask}
 use Rattle.ds_image.specs.declared.asks.Ask.TheVariants.{Lock}
 use Rattle.ds_layout.specs.Places.{cluster_lock}

@@ -3,11 +3,11 @@ use Rattle.std.specs.Prelude.{◌≡◌, ℕ, Bool, true, false, List, map, slic
 use Rattle.ds_base.specs.declared.names.NodeKind.TheVariants as kinds
 use Rattle.ds_fd.specs.declared.body.Body.{Body}
 use Rattle.ds_tree.specs.WellFormed.{Reached}
-use Rattle.ds_image.specs.Listings.{lists_by}
-use Rattle.ds_image.specs.declared.listings.Listed.TheVariants as listed
-use Rattle.ds_image.specs.Objects.{is_used, tree_of}
-use Rattle.ds_image.specs.Owns.{Owns}
-use Rattle.ds_image.specs.Parts.{Parts, part_at}
+use Rattle.ds_image_parts.specs.Listings.{lists_by}
+use Rattle.ds_image_parts.specs.declared.listings.Listed.TheVariants as listed
+use Rattle.ds_image_parts.specs.Objects.{is_used, tree_of}
+use Rattle.ds_image_tables.specs.Owns.{Owns}
+use Rattle.ds_image_parts.specs.Parts.{Parts, part_at}
 
 -- object 0 is a directory with birth 1
 pub record HasRoot (p : Parts) : Type 0 where

@@ -2,8 +2,8 @@
 use Rattle.std.specs.Prelude.{◌≡◌, ℕ, ◌≤◌, ◌==◌, if◌then◌else◌, Bool, true, List, [], ◌∷◌, ◌++◌, length, Option, Some, None}
 use Rattle.std.specs.List.{list_any}
 use Rattle.ds_base.specs.declared.sectors.Sector.{Sector}
-use Rattle.ds_image.specs.Looks.{Look, AreBlocks}
-use Rattle.ds_image.specs.Pending.{Pair}
+use Rattle.ds_image_parts.specs.Looks.{Look, AreBlocks}
+use Rattle.ds_image_parts.specs.Pending.{Pair}
 
 -- the objects that a call holds, and the sectors that it has read, in the order in which they came
 pub record SeenValue : Type 0 where

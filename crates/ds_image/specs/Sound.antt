@@ -9,10 +9,10 @@ use Rattle.ds_fd.specs.declared.body.Body.{Body}
 use Rattle.ds_layout.specs.Places.{blocks_at}
 use Rattle.ds_tree.specs.Nodes.{FileTree}
 use Rattle.ds_tree.specs.WellFormed.{IsTree}
-use Rattle.ds_image.specs.Objects.{is_used, subs_of, ptrs_of, blocks_of, tail_of, used_rooms, tree_of}
-use Rattle.ds_image.specs.Owns.{Owns, IsAt}
-use Rattle.ds_image.specs.Parts.{Parts, part_at, AllSpelled, maps_of, bits_in}
-use Rattle.ds_image.specs.Readings.{ReadsParts}
+use Rattle.ds_image_parts.specs.Objects.{is_used, subs_of, ptrs_of, blocks_of, tail_of, used_rooms, tree_of}
+use Rattle.ds_image_tables.specs.Owns.{Owns, IsAt}
+use Rattle.ds_image_parts.specs.Parts.{Parts, part_at, AllSpelled, maps_of, bits_in}
+use Rattle.ds_image_parts.specs.Readings.{ReadsParts}
 
 -- the items that each descriptor lists
 abbrev pub sub_lists : Parts → List (List ℕ)

@@ -6,11 +6,11 @@ use Rattle.ds_base.specs.declared.geometry.Geom.{Geom}
 use Rattle.ds_base.specs.declared.geometry.Kind.{Kind}
 use Rattle.ds_dir.specs.declared.sub_block.Entry.{Entry}
 use Rattle.ds_fd.specs.declared.body.Body.{Body}
-use Rattle.ds_image.specs.Looks.{Look}
-use Rattle.ds_image.specs.Objects.{is_used, subs_of, ptrs_of, tail_of, used_rooms}
-use Rattle.ds_image.specs.Owns.{Owns}
-use Rattle.ds_image.specs.Parts.{Parts, part_at, maps_of, bits_in}
-use Rattle.ds_image.specs.Readings.{ReadsParts}
+use Rattle.ds_image_parts.specs.Looks.{Look}
+use Rattle.ds_image_parts.specs.Objects.{is_used, subs_of, ptrs_of, tail_of, used_rooms}
+use Rattle.ds_image_tables.specs.Owns.{Owns}
+use Rattle.ds_image_parts.specs.Parts.{Parts, part_at, maps_of, bits_in}
+use Rattle.ds_image_parts.specs.Readings.{ReadsParts}
 use Rattle.ds_image.specs.Sound.{IsNamedRight, AreZero, sub_lists, ptr_lists, block_lists}
 
 -- these are the parts of some volume

@@ -3,19 +3,17 @@ ghost use Rattle.std.specs.Prelude.{◌≡◌, ◌<◌, false, length, IfOk, OnO
 ghost use Rattle.ds_base.specs.Geometry.{IsGeom};
 ghost use Rattle.ds_fd.specs.Body.{IsBody};
 ghost use Rattle.ds_fd.specs.declared.body.Body.{Body};
-ghost use Rattle.ds_image.specs.Looks.{Look};
-ghost use Rattle.ds_image.specs.Objects.{is_used, used_rooms, entries_of, object_of, tree_of};
-ghost use Rattle.ds_image.specs.Parts.{part_at};
-ghost use Rattle.ds_image.specs.Readings.{ReadsParts};
+ghost use Rattle.ds_image_parts.specs.Looks.{Look};
+ghost use Rattle.ds_image_parts.specs.Objects.{is_used, used_rooms, entries_of, object_of, tree_of};
+ghost use Rattle.ds_image_parts.specs.Parts.{part_at};
+ghost use Rattle.ds_image_parts.specs.Readings.{ReadsParts};
 ghost use Rattle.ds_image.specs.Sound.{IsSound};
 ghost use Rattle.ds_image.specs.SoundObjects.{AreNamesApart};
 ghost use Rattle.ds_tree.specs.Nodes.{Dir, node_at, with_object};
 ghost use Rattle.ds_tree.specs.WellFormed.{IsTree};
 
-use crate::listings::{blocks_of, entries_in, subs_of};
-use crate::parts::PartsInMemory;
-use crate::stores::Store;
 use ds_base::{Geom, Key, NoMemory, NodeKind, ObjNo};
+use ds_image_parts::{PartsInMemory, Store, blocks_of, entries_in, subs_of};
 use ds_tree::{Tree, TreeBuilder};
 use std::alloc::Global;
 

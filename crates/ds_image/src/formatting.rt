@@ -6,7 +6,7 @@ ghost use Rattle.ds_layout.specs.Places.{total_of, blocks_at, IsPlace, place_sec
 ghost use Rattle.ds_layout.specs.declared.places.Place.{Place};
 ghost use Rattle.ds_tree.specs.Nodes.{fresh_tree};
 ghost use Rattle.ds_image.specs.Formatted.{fresh_slot, fresh_header, fresh_body, fresh_bits, formatted_at, IsFormatted};
-ghost use Rattle.ds_image.specs.Logical.{IsLogical};
+ghost use Rattle.ds_image_parts.specs.Logical.{IsLogical};
 ghost use Rattle.ds_layout.specs.Metadata.{front_of};
 ghost use Rattle.ds_image.specs.Sound.{StandsFor};
 

@@ -7,14 +7,12 @@ ghost use Rattle.ds_layout.specs.Places.{cluster_lock, IsPlace};
 ghost use Rattle.ds_image.specs.Guards.{lister_or, guard_of, IsGuard};
 ghost use Rattle.ds_image.specs.Listers.{listed_of, listed_lists};
 ghost use Rattle.ds_layout.specs.Metadata.{IsMetadata};
-ghost use Rattle.ds_image.specs.Parts.{Parts, part_at};
-ghost use Rattle.ds_image.specs.Readings.{SpellsBody, ReadsParts};
+ghost use Rattle.ds_image_parts.specs.Parts.{Parts, part_at};
+ghost use Rattle.ds_image_parts.specs.Readings.{SpellsBody, ReadsParts};
 
-use crate::images::Image;
-use crate::listings::{ptrs_of, subs_of};
-use crate::stores::Store;
 use ds_base::{Geom, Kind, NodeKind, ObjNo, SectorNo};
 use ds_fd::Body;
+use ds_image_parts::{Image, Store, ptrs_of, subs_of};
 use ds_layout::{Place, cluster_lock, place_of, sector_of};
 
 /// The lock object that protects a sector: a body's descriptor, a bitmap's cluster, and for a sub-block or a pointer block

@@ -1,43 +1,28 @@
-//! Logical images of a volume: the metadata with the pending pairs of all journals laid over it, and the tree for which an image stands.
+//! The tree for which a logical image stands, new volumes, what protects a sector, and what a planner has to keep. Images, their parts and
+//! tables of them are passed on.
 #![tactic(auto)]
 
 mod asks;
-mod bad_sectors;
 mod building;
 mod formatting;
 mod guards;
-mod images;
-mod listings;
-mod logical;
-mod marks;
-mod name_counts;
 mod owners;
-mod parents;
-mod parts;
 mod plans;
-mod reads;
 mod rooted;
 mod seen;
 mod sound_objects;
 mod soundness;
-mod stores;
 mod trees;
-mod users;
 
 pub use asks::Ask;
+pub use ds_image_parts::{
+    Image, ImageFault, PartsInMemory, Store, addresses_in, blocks_of, header_at, index_at,
+    index_of, overlay, pointer_blocks, ptrs_of, sector_at, slot_at, subs_of,
+};
+pub use ds_image_tables::{Marks, NameCounts, Users, reached};
 pub use formatting::{format, format_sparse};
 pub use guards::guard;
-pub use images::{Image, ImageFault};
-pub use listings::{addresses_in, blocks_of, pointer_blocks, ptrs_of, subs_of};
-pub use logical::overlay;
-pub use marks::Marks;
-pub use name_counts::NameCounts;
 pub use owners::bits_in;
-pub use parents::reached;
-pub use parts::PartsInMemory;
 pub use plans::Plan;
-pub use reads::{header_at, index_at, index_of, sector_at, slot_at};
 pub use seen::Seen;
-pub use stores::Store;
 pub use trees::read_tree;
-pub use users::Users;

@@ -1,15 +1,13 @@
 //! Items that are listed once, and marked where they are listed.
 ghost use Rattle.std.specs.Prelude.{◌≡◌, ◌<◌, ◌^◌, ◌↔◌, IsTrue, IfOk, length};
-ghost use Rattle.ds_image.specs.Listings.{lists_by};
-ghost use Rattle.ds_image.specs.Owns.{Owns};
-ghost use Rattle.ds_image.specs.Parts.{bits_in, used_bits};
+ghost use Rattle.ds_image_parts.specs.Listings.{lists_by};
+ghost use Rattle.ds_image_tables.specs.Owns.{Owns};
+ghost use Rattle.ds_image_parts.specs.Parts.{bits_in, used_bits};
 
-use crate::listings::{Listed, list_of};
-use crate::marks::Marks;
-use crate::parts::PartsInMemory;
-use crate::stores::Store;
 use ds_base::NoMemory;
 use ds_bitmap::Bits;
+use ds_image_parts::{Listed, PartsInMemory, Store, list_of};
+use ds_image_tables::Marks;
 use std::alloc::Global;
 
 /// Whether no item is listed twice, and a bit is set exactly where an item is listed.

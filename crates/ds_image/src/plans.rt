@@ -5,9 +5,9 @@ ghost use Rattle.ds_base.specs.declared.geometry.Geom.{Geom};
 ghost use Rattle.ds_base.specs.declared.names.Key.{Key};
 ghost use Rattle.ds_tree.specs.CallNames.{HasNames};
 ghost use Rattle.ds_tree.specs.declared.calls.CallOf.{CallOf};
-ghost use Rattle.ds_image.specs.Parts.{Parts};
+ghost use Rattle.ds_image_parts.specs.Parts.{Parts};
 ghost use Rattle.ds_image.specs.Planning.{Answers, AllAreAllowed, AllAreFew, AllKeep};
-ghost use Rattle.ds_image.specs.Readings.{ReadsParts};
+ghost use Rattle.ds_image_parts.specs.Readings.{ReadsParts};
 ghost use Rattle.ds_image.specs.SeenValues.{look_of};
 
 use crate::asks::Ask;

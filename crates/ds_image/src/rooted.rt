@@ -11,24 +11,22 @@ ghost use Rattle.std.specs.Prelude.{
   length,
   slice_index_or,
 };
-ghost use Rattle.ds_image.specs.Listings.{lists_by};
-ghost use Rattle.ds_image.specs.declared.listings.Listed.TheVariants as listed;
+ghost use Rattle.ds_image_parts.specs.Listings.{lists_by};
+ghost use Rattle.ds_image_parts.specs.declared.listings.Listed.TheVariants as listed;
 ghost use Rattle.ds_image.specs.ListParents.{SetsParents, AreParentsOf};
-ghost use Rattle.ds_image.specs.Objects.{is_used};
-ghost use Rattle.ds_image.specs.Owns.{Owns};
-ghost use Rattle.ds_image.specs.Parts.{part_at};
+ghost use Rattle.ds_image_parts.specs.Objects.{is_used};
+ghost use Rattle.ds_image_tables.specs.Owns.{Owns};
+ghost use Rattle.ds_image_parts.specs.Parts.{part_at};
 ghost use Rattle.ds_image.specs.Rooted.{HasRoot, named_bits, IsRooted};
 ghost use Rattle.ds_image.specs.Sound.{IsSound};
 ghost use Rattle.ds_image.specs.SoundObjects.{AreRead};
 
-use crate::listings::{Listed, list_of};
 use crate::owners::owns;
-use crate::parents::reached;
-use crate::parts::PartsInMemory;
 use crate::soundness::{is_used, used_of};
-use crate::stores::Store;
 use ds_base::{NoMemory, NodeKind};
 use ds_fd::Body;
+use ds_image_parts::{Listed, PartsInMemory, Store, list_of};
+use ds_image_tables::reached;
 use std::alloc::Global;
 
 /// Whether the root is there, each used object but it has exactly one name, and all are reached from it.

@@ -1,15 +1,13 @@
 //! Whether what each descriptor says agrees with the other parts of an image.
 ghost use Rattle.std.specs.Prelude.{◌≡◌, ◌↔◌, ℕ, drop, All, IsSome, IsTrue, IfOk, is_some};
-ghost use Rattle.ds_image.specs.Parts.{part_at};
+ghost use Rattle.ds_image_parts.specs.Parts.{part_at};
 ghost use Rattle.ds_image.specs.Sound.{IsNamedRight, AreZero};
 ghost use Rattle.ds_image.specs.SoundObjects.{AreNamesApart, count_in, IsSoundObject};
 
-use crate::listings::{entries_in, pointed_by, ptrs_of, subs_of};
-use crate::parts::PartsInMemory;
-use crate::stores::Store;
 use ds_base::NoMemory;
 use ds_dir::Entry;
 use ds_fd::Body;
+use ds_image_parts::{PartsInMemory, Store, entries_in, pointed_by, ptrs_of, subs_of};
 use std::alloc::Global;
 use std::collections::BTreeSet;
 

@@ -1,18 +1,16 @@
 //! Whether the parts of an image agree with one another.
 ghost use Rattle.std.specs.Prelude.{◌≡◌, ◌<◌, ◌^◌, ◌↔◌, ℕ, IsTrue, IfOk, length, map};
 ghost use Rattle.ds_base.specs.declared.geometry.Kind.{Kind};
-ghost use Rattle.ds_image.specs.Objects.{is_used};
-ghost use Rattle.ds_image.specs.Parts.{AllSpelled, maps_of, bits_in};
+ghost use Rattle.ds_image_parts.specs.Objects.{is_used};
+ghost use Rattle.ds_image_parts.specs.Parts.{AllSpelled, maps_of, bits_in};
 ghost use Rattle.ds_image.specs.Sound.{IsSound};
 ghost use Rattle.ds_image.specs.SoundObjects.{AreRead, IsMarked, HasShortRows};
 
-use crate::listings::Listed;
 use crate::owners::{bits_in, owns};
-use crate::parts::PartsInMemory;
 use crate::sound_objects::are_sound_objects;
-use crate::stores::Store;
 use ds_base::{Kind, NoMemory};
 use ds_fd::Body;
+use ds_image_parts::{Listed, PartsInMemory, Store};
 use std::alloc::Global;
 
 /// Whether the parts that a volume spells agree with one another.

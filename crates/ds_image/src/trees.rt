@@ -5,12 +5,10 @@ ghost use Rattle.ds_image.specs.ReadTrees.{StandsForNone};
 ghost use Rattle.ds_image.specs.Sound.{StandsFor};
 
 use crate::building::tree_of;
-use crate::images::Image;
-use crate::parts::PartsInMemory;
 use crate::rooted::is_rooted;
 use crate::soundness::is_sound;
-use crate::stores::Store;
 use ds_base::NoMemory;
+use ds_image_parts::{Image, PartsInMemory, Store};
 use ds_tree::Tree;
 use std::alloc::Global;
 

@@ -4,10 +4,10 @@ use Rattle.ds_base.specs.declared.geometry.Geom.{Geom}
 use Rattle.ds_base.specs.declared.sectors.Sector.{Sector}
 use Rattle.ds_marks.specs.declared.header.Header.{Header}
 use Rattle.ds_image.specs.Guards.{IsGuard}
-use Rattle.ds_image.specs.Logical.{laid_over}
-use Rattle.ds_image.specs.Looks.{Look}
-use Rattle.ds_image.specs.Pending.{Pair, ArePending}
-use Rattle.ds_image.specs.Readings.{SpellsHeader}
+use Rattle.ds_image_parts.specs.Logical.{laid_over}
+use Rattle.ds_image_parts.specs.Looks.{Look}
+use Rattle.ds_image_parts.specs.Pending.{Pair, ArePending}
+use Rattle.ds_image_parts.specs.Readings.{SpellsHeader}
 use Rattle.ds_image_laws.specs.Kept.{Knows, is_target}
 
 -- no sector is a target of one slot's pairs and of pairs of another

@@ -20,17 +20,17 @@ use Rattle.ds_marks.specs.declared.slot.Slot.{Slot}
 use Rattle.ds_image.specs.Guards.{GuardedBy, IsGuard}
 use Rattle.ds_image.specs.SeenValues.{HoldsLock, SeenValue, look_of, with_lock, with_sector}
 use Rattle.ds_image.specs.Asking.{targets_of, IsReadable, Keeps}
-use Rattle.ds_image.specs.Logical.{laid_over, IsLogical}
-use Rattle.ds_image.specs.Looks.{Look}
+use Rattle.ds_image_parts.specs.Logical.{laid_over, IsLogical}
+use Rattle.ds_image_parts.specs.Looks.{Look}
 use Rattle.ds_layout.specs.Metadata.{front_of}
-use Rattle.ds_image.specs.Parts.{Parts}
-use Rattle.ds_image.specs.Pending.{Pair, ArePending}
+use Rattle.ds_image_parts.specs.Parts.{Parts}
+use Rattle.ds_image_parts.specs.Pending.{Pair, ArePending}
 use Rattle.ds_image.specs.Planning.{Answers, AllKeep}
-use Rattle.ds_image.specs.Readings.{ReadsParts, SpellsSlot}
+use Rattle.ds_image_parts.specs.Readings.{ReadsParts, SpellsSlot}
 use Rattle.ds_image.specs.Sound.{StandsFor}
 use Rattle.ds_image.specs.declared.asks.Ask.TheVariants.{Odd, Done, Change}
-use Rattle.ds_image.proofs.Journaling.LaidOver.{length-laid_over}
-use Rattle.ds_image.proofs.Journaling.OneLogical.{logical_once, pending_once}
+use Rattle.ds_image_parts.proofs.Journaling.LaidOver.{length-laid_over}
+use Rattle.ds_image_parts.proofs.Journaling.OneLogical.{logical_once, pending_once}
 use Rattle.ds_image_laws.specs.Calls.{CallKnows, Commits}
 use Rattle.ds_image_laws.specs.Kept.{Knows, is_target}
 use Rattle.ds_image_laws.specs.Owners.{Names}

@@ -7,9 +7,9 @@ use Rattle.ds_base.specs.declared.sectors.Sector.{Sector}
 use Rattle.ds_layout.specs.Places.{blocks_at}
 use Rattle.ds_tree.specs.Nodes.{FileTree, Object, node_of_key}
 use Rattle.ds_image.specs.Guards.{GuardedBy, IsGuard}
-use Rattle.ds_image.specs.Logical.{laid_over, IsLogical}
-use Rattle.ds_image.specs.Looks.{Look}
-use Rattle.ds_image.specs.Pending.{Pair}
+use Rattle.ds_image_parts.specs.Logical.{laid_over, IsLogical}
+use Rattle.ds_image_parts.specs.Looks.{Look}
+use Rattle.ds_image_parts.specs.Pending.{Pair}
 use Rattle.ds_image_laws.specs.Kept.{is_target}
 use Rattle.ds_image_laws.specs.ImageSteps.{Commit, IsFree, ImageStep}
 use Rattle.ds_image_laws.specs.Owners.{Names}

@@ -26,13 +26,13 @@ use Rattle.ds_tree.specs.declared.calls.CallOf.{CallOf}
 use Rattle.ds_tree.specs.declared.calls.TreeReply.{TreeReply}
 use Rattle.ds_image.specs.Asking.{targets_of, AreTargets, Keeps}
 use Rattle.ds_image.specs.Formatted.{IsFormatted, fresh_slot}
-use Rattle.ds_image.specs.Logical.{laid_over}
-use Rattle.ds_image.specs.Looks.{Look}
+use Rattle.ds_image_parts.specs.Logical.{laid_over}
+use Rattle.ds_image_parts.specs.Looks.{Look}
 use Rattle.ds_layout.specs.Metadata.{IsMetadata, front_of}
-use Rattle.ds_image.specs.Parts.{Parts}
-use Rattle.ds_image.specs.Pending.{Pair, AreOfJournal}
+use Rattle.ds_image_parts.specs.Parts.{Parts}
+use Rattle.ds_image_parts.specs.Pending.{Pair, AreOfJournal}
 use Rattle.ds_image.specs.Planning.{Answers, AllKeep}
-use Rattle.ds_image.specs.Readings.{ReadsParts, SpellsHeader, SpellsSlot}
+use Rattle.ds_image_parts.specs.Readings.{ReadsParts, SpellsHeader, SpellsSlot}
 use Rattle.ds_image.specs.SeenValues.{SeenValue, look_of}
 use Rattle.ds_image.specs.declared.asks.Ask.TheVariants.{Change}
 use Rattle.ds_image.proofs.NewVolumes.FreshVolume.{same_bytes, slot_spelled, front_is_logical, fresh_stands}

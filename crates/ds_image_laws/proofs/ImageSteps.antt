@@ -7,7 +7,7 @@ use Rattle.ds_layout.specs.Places.{blocks_at, place_sector}
 use Rattle.ds_layout.specs.declared.places.Place.TheVariants as places
 use Rattle.ds_tree.specs.Nodes.{FileTree, object_at}
 use Rattle.ds_image.specs.SeenValues.{HoldsLock, SeenValue, look_of}
-use Rattle.ds_image.specs.Looks.{Look}
+use Rattle.ds_image_parts.specs.Looks.{Look}
 use Rattle.ds_image_laws.specs.Calls.{CallKnows}
 use Rattle.ds_image_laws.specs.ImageSteps.{Commit, IsFree, ImageStep, Elsewhere, Placed, Renewed, Retired, Committed, with_commit, ImageRun, Begun, Went, DoAll, DoNone, DoOne}
 use Rattle.ds_image_laws.specs.Kept.{Knows}

@@ -9,10 +9,10 @@ use Rattle.ds_tree.specs.Nodes.{FileTree}
 use Rattle.ds_layout.specs.Places.{blocks_at}
 use Rattle.ds_image.specs.Guards.{GuardedBy, IsGuard}
 use Rattle.ds_image.specs.Asking.{targets_of}
-use Rattle.ds_image.specs.Logical.{laid_over}
-use Rattle.ds_image.specs.Looks.{Look}
-use Rattle.ds_image.specs.Pending.{Pair, ArePending}
-use Rattle.ds_image.proofs.Journaling.OneLogical.{pending_once}
+use Rattle.ds_image_parts.specs.Logical.{laid_over}
+use Rattle.ds_image_parts.specs.Looks.{Look}
+use Rattle.ds_image_parts.specs.Pending.{Pair, ArePending}
+use Rattle.ds_image_parts.proofs.Journaling.OneLogical.{pending_once}
 use Rattle.ds_image_laws.specs.Kept.{Knows, is_target}
 use Rattle.ds_image_laws.specs.Shown.{SameMetadata, Shows, AreInPlace, MakesImage, HoldsImage}
 use Rattle.ds_image_laws.proofs.Known.{laid-outside, guarded-kept, knows-kept}

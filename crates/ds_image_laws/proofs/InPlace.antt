@@ -7,9 +7,9 @@ use Rattle.std.proofs.lemmas.List.{get_or-map, length-map}
 use Rattle.std.proofs.lemmas.Option.{same_Some, slice_get_within, get_or_from_slice_get}
 use Rattle.ds_base.specs.declared.sectors.Sector.{Sector}
 use Rattle.ds_image.specs.Asking.{targets_of}
-use Rattle.ds_image.specs.Pending.{Pair}
+use Rattle.ds_image_parts.specs.Pending.{Pair}
 use Rattle.ds_image.proofs.Spelling.SoundParts.{all-at, all-from_at}
-use Rattle.ds_image.proofs.Journaling.LaidOver.{slice_get-set_same, slice_get-set_other}
+use Rattle.ds_image_parts.proofs.Journaling.LaidOver.{slice_get-set_same, slice_get-set_other}
 use Rattle.ds_image_laws.specs.Kept.{is_target}
 use Rattle.ds_image_laws.specs.Shown.{AreInPlace}
 use Rattle.ds_image_laws.proofs.PickedPairs.{target-later, target-first}

@@ -16,14 +16,14 @@ use Rattle.ds_layout.specs.declared.places.Place.{Place}
 use Rattle.ds_layout.specs.declared.places.Place.TheVariants as places
 use Rattle.ds_tree.specs.Nodes.{FileTree}
 use Rattle.ds_image.specs.Guards.{guard_of, lister_or, IsGuard}
-use Rattle.ds_image.specs.Looks.{Look}
-use Rattle.ds_image.specs.Objects.{subs_of, ptrs_of}
-use Rattle.ds_image.specs.Owns.{Owns, IsAt, list_of, bit}
-use Rattle.ds_image.specs.Parts.{Parts, part_at, maps_of, bits_in, used_bits}
-use Rattle.ds_image.specs.Readings.{SpellsBody, SpellsBits, ReadsParts}
+use Rattle.ds_image_parts.specs.Looks.{Look}
+use Rattle.ds_image_parts.specs.Objects.{subs_of, ptrs_of}
+use Rattle.ds_image_tables.specs.Owns.{Owns, IsAt, list_of, bit}
+use Rattle.ds_image_parts.specs.Parts.{Parts, part_at, maps_of, bits_in, used_bits}
+use Rattle.ds_image_parts.specs.Readings.{SpellsBody, SpellsBits, ReadsParts}
 use Rattle.ds_image.specs.Sound.{IsSound, StandsFor}
-use Rattle.ds_image.proofs.Spelling.Decoded.{decoded_same, decoded_as}
-use Rattle.ds_image.proofs.Spelling.Readings.{parts_same}
+use Rattle.ds_image_parts.proofs.Spelling.Decoded.{decoded_same, decoded_as}
+use Rattle.ds_image_parts.proofs.Spelling.Readings.{parts_same}
 use Rattle.ds_image.proofs.SectorGuards.{lister-listed, lister-unlisted, guard-body, guard-map}
 use Rattle.ds_image.proofs.MarksByCluster.{each-item}
 use Rattle.ds_image.proofs.SameSectors.{body-as, bits-as}

@@ -17,13 +17,13 @@ use Rattle.ds_layout.specs.Places.{place_sector}
 use Rattle.ds_layout.specs.declared.places.Place.TheVariants as places
 use Rattle.ds_tree.specs.Nodes.{FileTree, Node, Dir, File, object_at}
 use Rattle.ds_image.specs.Guards.{IsGuard}
-use Rattle.ds_image.specs.Looks.{Look}
-use Rattle.ds_image.specs.Objects.{subs_by, ptrs_by, addresses_in, rooms_in, rooms_of, node_by, object_of, tree_of, subs_of, ptrs_of}
-use Rattle.ds_image.specs.Owns.{IsAt}
-use Rattle.ds_image.specs.Parts.{Parts, part_at}
-use Rattle.ds_image.specs.Readings.{SpellsSub, SpellsPtr, ReadsParts}
+use Rattle.ds_image_parts.specs.Looks.{Look}
+use Rattle.ds_image_parts.specs.Objects.{subs_by, ptrs_by, addresses_in, rooms_in, rooms_of, node_by, object_of, tree_of, subs_of, ptrs_of}
+use Rattle.ds_image_tables.specs.Owns.{IsAt}
+use Rattle.ds_image_parts.specs.Parts.{Parts, part_at}
+use Rattle.ds_image_parts.specs.Readings.{SpellsSub, SpellsPtr, ReadsParts}
 use Rattle.ds_image.specs.Sound.{IsSound, StandsFor, sub_lists, ptr_lists}
-use Rattle.ds_image.proofs.Spelling.Decoded.{decoded_same, decoded_as}
+use Rattle.ds_image_parts.proofs.Spelling.Decoded.{decoded_same, decoded_as}
 use Rattle.ds_image.proofs.Ownership.Listed.{sub_listed_within, ptr_listed_within}
 use Rattle.ds_image.proofs.Spelling.SoundParts.{list-is}
 use Rattle.ds_image.proofs.FileTrees.TreeParts.{object-is}

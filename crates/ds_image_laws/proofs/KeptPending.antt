@@ -21,15 +21,15 @@ use Rattle.ds_marks.specs.declared.slot.Slot.{Slot}
 use Rattle.ds_marks.specs.declared.slot.Journal.{Journal}
 use Rattle.ds_marks.specs.declared.slot.Journal.TheVariants.{Idle, Committed}
 use Rattle.ds_image.specs.Asking.{targets_of}
-use Rattle.ds_image.specs.Looks.{Look, HasBytes}
+use Rattle.ds_image_parts.specs.Looks.{Look, HasBytes}
 use Rattle.ds_layout.specs.Metadata.{IsMetadata}
-use Rattle.ds_image.specs.Pending.{Pair, AreOfJournal, AreOfSlot, ArePending}
-use Rattle.ds_image.specs.Readings.{SpellsSlot}
-use Rattle.ds_image.proofs.Spelling.Decoded.{decoded_same, decoded_as}
+use Rattle.ds_image_parts.specs.Pending.{Pair, AreOfJournal, AreOfSlot, ArePending}
+use Rattle.ds_image_parts.specs.Readings.{SpellsSlot}
+use Rattle.ds_image_parts.proofs.Spelling.Decoded.{decoded_same, decoded_as}
 use Rattle.ds_image.proofs.NewVolumes.FreshLists.{decoded_one}
 use Rattle.ds_image.proofs.NewVolumes.FreshVolume.{same_bytes}
-use Rattle.ds_image.proofs.Journaling.OneLogical.{pending_once}
-use Rattle.ds_image.proofs.Journaling.LaidOver.{slice_get-set_other, slice_get-set_same}
+use Rattle.ds_image_parts.proofs.Journaling.OneLogical.{pending_once}
+use Rattle.ds_image_parts.proofs.Journaling.LaidOver.{slice_get-set_other, slice_get-set_same}
 use Rattle.ds_image_laws.specs.Shown.{IsIdle, IsHarmless}
 use Rattle.ds_image.proofs.SameSectors.{has-same, slot-as}
 

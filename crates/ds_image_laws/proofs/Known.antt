@@ -13,16 +13,16 @@ use Rattle.ds_base.specs.declared.sectors.Sector.{Sector}
 use Rattle.ds_tree.specs.Nodes.{FileTree}
 use Rattle.ds_tree.specs.declared.calls.CallOf.{CallOf}
 use Rattle.ds_tree.specs.declared.calls.TreeReply.{TreeReply}
-use Rattle.ds_image.proofs.Journaling.LaidOver.{slice_get-set_other}
+use Rattle.ds_image_parts.proofs.Journaling.LaidOver.{slice_get-set_other}
 use Rattle.ds_image.specs.Guards.{GuardedBy, IsGuard}
 use Rattle.ds_image.specs.SeenValues.{HoldsLock, SeenValue, has_lock, look_of, sector_in, with_lock, with_sector}
 use Rattle.ds_image.specs.Asking.{targets_of, IsGuarded, IsReadable, IsRightChange, Keeps}
-use Rattle.ds_image.specs.Logical.{laid_over}
-use Rattle.ds_image.specs.Looks.{Look}
-use Rattle.ds_image.specs.Parts.{Parts}
-use Rattle.ds_image.specs.Pending.{Pair}
+use Rattle.ds_image_parts.specs.Logical.{laid_over}
+use Rattle.ds_image_parts.specs.Looks.{Look}
+use Rattle.ds_image_parts.specs.Parts.{Parts}
+use Rattle.ds_image_parts.specs.Pending.{Pair}
 use Rattle.ds_image.specs.Planning.{Answers, AllKeep}
-use Rattle.ds_image.specs.Readings.{ReadsParts}
+use Rattle.ds_image_parts.specs.Readings.{ReadsParts}
 use Rattle.ds_image.specs.Sound.{StandsFor}
 use Rattle.ds_image.specs.declared.asks.Ask.TheVariants.{Change}
 use Rattle.ds_jrnl.specs.declared.redo.Redo.{Redo}

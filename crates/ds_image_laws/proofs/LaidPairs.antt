@@ -4,9 +4,9 @@ use Rattle.std.proofs.lemmas.Bool.{cases_Bool}
 use Rattle.std.proofs.lemmas.List.{same_lists}
 use Rattle.std.proofs.lemmas.Option.{same_Some, slice_get-get_or}
 use Rattle.ds_base.specs.declared.sectors.Sector.{Sector}
-use Rattle.ds_image.specs.Logical.{laid_over}
-use Rattle.ds_image.specs.Pending.{Pair}
-use Rattle.ds_image.proofs.Journaling.LaidOver.{picked, laid_get, length-laid_over}
+use Rattle.ds_image_parts.specs.Logical.{laid_over}
+use Rattle.ds_image_parts.specs.Pending.{Pair}
+use Rattle.ds_image_parts.proofs.Journaling.LaidOver.{picked, laid_get, length-laid_over}
 use Rattle.ds_image_laws.specs.Kept.{is_target}
 use Rattle.ds_image_laws.specs.Laws.{ShareNoTarget}
 use Rattle.ds_image_laws.specs.Shown.{AreInPlace}

@@ -13,8 +13,8 @@ use Rattle.ds_marks.specs.declared.header.Header.{Header}
 use Rattle.ds_marks.specs.declared.slot.Slot.{Slot}
 use Rattle.ds_marks.proofs.HeaderIn.{header_in-IsDecoded, header_if_of-IsDecoded}
 use Rattle.ds_marks.proofs.SlotIn.{slot_in-IsDecoded}
-use Rattle.ds_image.specs.Readings.{SpellsHeader, SpellsSlot}
-use Rattle.ds_image.proofs.Spelling.Decoded.{decoded_as}
+use Rattle.ds_image_parts.specs.Readings.{SpellsHeader, SpellsSlot}
+use Rattle.ds_image_parts.proofs.Spelling.Decoded.{decoded_as}
 use Rattle.ds_image_laws.specs.Laws.{SlotsByValue, HeadersByValue}
 
 -- what is read of a sector's bytes is read of the sector that is there

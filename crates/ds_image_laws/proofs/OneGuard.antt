@@ -8,11 +8,11 @@ use Rattle.ds_layout.specs.Places.{IsPlace, place_sector}
 use Rattle.ds_layout.specs.declared.places.Place.{Place}
 use Rattle.ds_layout.specs.declared.places.Place.TheVariants as places
 use Rattle.ds_image.specs.Guards.{guard_of, IsGuard}
-use Rattle.ds_image.specs.Looks.{Look}
+use Rattle.ds_image_parts.specs.Looks.{Look}
 use Rattle.ds_layout.specs.Metadata.{IsMetadata, is_metadata}
-use Rattle.ds_image.specs.Parts.{Parts}
-use Rattle.ds_image.specs.Readings.{ReadsParts}
-use Rattle.ds_image.proofs.Spelling.Readings.{parts_same}
+use Rattle.ds_image_parts.specs.Parts.{Parts}
+use Rattle.ds_image_parts.specs.Readings.{ReadsParts}
+use Rattle.ds_image_parts.proofs.Spelling.Readings.{parts_same}
 
 -- the guard of a place's sector, by the parts that are known
 pub guard-by_place : (g : Geom) (look : Look) (p : Parts) (place : Place) (object : ℕ) → IsGeom g → ReadsParts g look p → IsPlace g place

@@ -14,8 +14,8 @@ use Rattle.ds_marks.specs.Header.{header_bytes}
 use Rattle.ds_marks.specs.declared.header.Header.{Header}
 use Rattle.ds_marks.specs.declared.header.Owner.{Owner}
 use Rattle.ds_marks.specs.declared.slot.Slot.{Slot}
-use Rattle.ds_image.specs.Looks.{Look}
-use Rattle.ds_image.specs.Readings.{SpellsHeader, SpellsSlot}
+use Rattle.ds_image_parts.specs.Looks.{Look}
+use Rattle.ds_image_parts.specs.Readings.{SpellsHeader, SpellsSlot}
 use Rattle.ds_image.proofs.NewVolumes.FreshVolume.{same_bytes}
 use Rattle.ds_image_laws.specs.Owners.{Names}
 use Rattle.ds_image_laws.proofs.KeptPending.{place-kept}

@@ -8,8 +8,8 @@ use Rattle.std.proofs.lemmas.List.Folds.{list_any-append}
 use Rattle.std.proofs.lemmas.Option.{same_Some}
 use Rattle.ds_base.specs.declared.sectors.Sector.{Sector}
 use Rattle.ds_image.specs.Asking.{targets_of}
-use Rattle.ds_image.specs.Pending.{Pair}
-use Rattle.ds_image.proofs.Journaling.LaidOver.{picked}
+use Rattle.ds_image_parts.specs.Pending.{Pair}
+use Rattle.ds_image_parts.proofs.Journaling.LaidOver.{picked}
 use Rattle.ds_image_laws.specs.Kept.{is_target}
 use Rattle.ds_image_laws.specs.Shown.{AreInPlace}
 

@@ -8,11 +8,11 @@ use Rattle.ds_tree.specs.Nodes.{FileTree}
 use Rattle.ds_layout.specs.Places.{blocks_at, place_sector}
 use Rattle.ds_layout.specs.declared.places.Place.TheVariants as places
 use Rattle.ds_image.specs.Guards.{IsGuard}
-use Rattle.ds_image.specs.Logical.{IsLogical}
-use Rattle.ds_image.specs.Parts.{Parts, maps_of}
-use Rattle.ds_image.specs.Readings.{SpellsBody, SpellsBits, SpellsSub, SpellsPtr, ReadsParts}
+use Rattle.ds_image_parts.specs.Logical.{IsLogical}
+use Rattle.ds_image_parts.specs.Parts.{Parts, maps_of}
+use Rattle.ds_image_parts.specs.Readings.{SpellsBody, SpellsBits, SpellsSub, SpellsPtr, ReadsParts}
 use Rattle.ds_image.specs.Sound.{StandsFor}
-use Rattle.ds_image.proofs.Journaling.OneLogical.{logical_once}
+use Rattle.ds_image_parts.proofs.Journaling.OneLogical.{logical_once}
 use Rattle.ds_layout.proofs.MetadataPlaces.{body-metadata, map-metadata, sub-metadata, ptr-metadata}
 use Rattle.ds_image_laws.specs.Shown.{SameMetadata, Shows}
 use Rattle.ds_image.proofs.SameSectors.{reading-as, body-as, bits-as, sub-as, ptr-as}

@@ -5,12 +5,12 @@ use Rattle.std.proofs.lemmas.List.{get_or_past}
 use Rattle.ds_base.specs.declared.geometry.Geom.{Geom}
 use Rattle.ds_base.specs.declared.sectors.Sector.{Sector}
 use Rattle.ds_layout.specs.Places.{blocks_at}
-use Rattle.ds_image.specs.Logical.{laid_over, AreAllPending}
+use Rattle.ds_image_parts.specs.Logical.{laid_over, AreAllPending}
 use Rattle.ds_layout.specs.Metadata.{IsMetadata, front_of}
-use Rattle.ds_image.specs.Pending.{Pair, ArePending}
+use Rattle.ds_image_parts.specs.Pending.{Pair, ArePending}
 use Rattle.ds_layout.proofs.MetadataPlaces.{metadata-before_blocks}
-use Rattle.ds_image.proofs.Journaling.LaidOver.{picked, laid_get, written_in_place}
-use Rattle.ds_image.proofs.Journaling.OneLogical.{pending_once}
+use Rattle.ds_image_parts.proofs.Journaling.LaidOver.{picked, laid_get, written_in_place}
+use Rattle.ds_image_parts.proofs.Journaling.OneLogical.{pending_once}
 use Rattle.ds_image_laws.specs.Kept.{is_target}
 use Rattle.ds_image_laws.specs.Shown.{SameMetadata, Shows, AreInPlace}
 use Rattle.ds_image_laws.proofs.PickedPairs.{all_of, picked-none, picked-in_place, picked-by_one, picked-put, targets-none, target-among, slice_get-take, take-set}

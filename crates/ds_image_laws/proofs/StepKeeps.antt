@@ -10,9 +10,9 @@ use Rattle.ds_layout.specs.Places.{blocks_at, place_sector}
 use Rattle.ds_layout.specs.declared.places.Place.TheVariants as places
 use Rattle.ds_tree.specs.Nodes.{FileTree}
 use Rattle.ds_layout.specs.Metadata.{IsMetadata}
-use Rattle.ds_image.specs.Pending.{Pair, ArePending}
+use Rattle.ds_image_parts.specs.Pending.{Pair, ArePending}
 use Rattle.ds_layout.proofs.MetadataPlaces.{metadata-before_blocks}
-use Rattle.ds_image.proofs.Journaling.OneLogical.{pending_once}
+use Rattle.ds_image_parts.proofs.Journaling.OneLogical.{pending_once}
 use Rattle.ds_image.proofs.Spelling.SoundParts.{all-at, all-from_at}
 use Rattle.ds_image_laws.specs.Kept.{is_target}
 use Rattle.ds_image_laws.specs.HostWrites.{IsReady}

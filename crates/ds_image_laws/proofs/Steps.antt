@@ -13,11 +13,11 @@ use Rattle.ds_layout.specs.declared.places.Place.TheVariants as places
 use Rattle.ds_marks.specs.declared.slot.Slot.{Slot}
 use Rattle.ds_marks.specs.declared.slot.Journal.{Journal}
 use Rattle.ds_marks.specs.declared.slot.Journal.TheVariants.{Idle}
-use Rattle.ds_image.specs.Logical.{laid_over}
+use Rattle.ds_image_parts.specs.Logical.{laid_over}
 use Rattle.ds_layout.specs.Metadata.{IsMetadata, is_metadata}
-use Rattle.ds_image.specs.Pending.{Pair, AreOfJournal, ArePending}
-use Rattle.ds_image.specs.Readings.{SpellsSlot}
-use Rattle.ds_image.proofs.Journaling.OneLogical.{pending_once}
+use Rattle.ds_image_parts.specs.Pending.{Pair, AreOfJournal, ArePending}
+use Rattle.ds_image_parts.specs.Readings.{SpellsSlot}
+use Rattle.ds_image_parts.proofs.Journaling.OneLogical.{pending_once}
 use Rattle.ds_image_laws.specs.Kept.{is_target}
 use Rattle.ds_image_laws.specs.Owners.{Names}
 use Rattle.ds_image_laws.specs.Shown.{SameMetadata, AreInPlace, IsIdle, IsHarmless, MakesImage, HoldsImage}

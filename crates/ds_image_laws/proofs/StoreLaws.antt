@@ -3,7 +3,7 @@ use Rattle.std.proofs.Common.{List, refl, sym, subst, arith}
 use Rattle.ds_base.specs.declared.sectors.Sector.{Sector}
 use Rattle.ds_image.specs.SeenValues.{HoldsLock, look_of}
 use Rattle.ds_image.specs.Sound.{StandsFor}
-use Rattle.ds_image.proofs.Journaling.OneLogical.{logical_once}
+use Rattle.ds_image_parts.proofs.Journaling.OneLogical.{logical_once}
 use Rattle.ds_image_laws.specs.ImageSteps.{Elsewhere, Placed, Renewed, Retired, Committed}
 use Rattle.ds_image_laws.specs.Laws.{AlikeByMetadata, PendingApart, FreeStands, StepKeepsImage, GuardsStay, SeenStays, ObjectsStay, FormattedHasImage, LogicalStands, RunDoesAll, PlannersAreRight}
 use Rattle.ds_image_laws.specs.Owners.{Names}

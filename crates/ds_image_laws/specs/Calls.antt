@@ -8,7 +8,7 @@ use Rattle.ds_tree.specs.Steps.{Does, IsNextLife, has_change, refusal}
 use Rattle.ds_tree.specs.declared.calls.CallOf.{CallOf}
 use Rattle.ds_tree.specs.declared.calls.TreeReply.{TreeReply}
 use Rattle.ds_image.specs.SeenValues.{HoldsLock, SeenValue, look_of}
-use Rattle.ds_image.specs.Pending.{Pair}
+use Rattle.ds_image_parts.specs.Pending.{Pair}
 use Rattle.ds_image_laws.specs.Kept.{Knows}
 use Rattle.ds_image_laws.specs.Owners.{Names}
 use Rattle.ds_image_laws.specs.Shown.{MakesImage}

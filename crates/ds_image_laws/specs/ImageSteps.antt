@@ -12,10 +12,10 @@ use Rattle.ds_marks.specs.declared.slot.Journal.TheVariants.{Idle}
 use Rattle.ds_tree.specs.Nodes.{FileTree}
 use Rattle.ds_tree.specs.declared.calls.CallOf.{CallOf}
 use Rattle.ds_tree.specs.declared.calls.TreeReply.{TreeReply}
-use Rattle.ds_image.specs.Logical.{laid_over}
+use Rattle.ds_image_parts.specs.Logical.{laid_over}
 use Rattle.ds_layout.specs.Metadata.{is_metadata}
-use Rattle.ds_image.specs.Pending.{Pair, AreOfJournal, ArePending}
-use Rattle.ds_image.specs.Readings.{SpellsSlot}
+use Rattle.ds_image_parts.specs.Pending.{Pair, AreOfJournal, ArePending}
+use Rattle.ds_image_parts.specs.Readings.{SpellsSlot}
 use Rattle.ds_image_laws.specs.Calls.{Commits, IsChange}
 use Rattle.ds_image_laws.specs.Owners.{Names}
 use Rattle.ds_image_laws.specs.Shown.{AreInPlace, IsIdle, IsHarmless}

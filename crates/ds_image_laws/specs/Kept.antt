@@ -4,8 +4,8 @@ use Rattle.std.specs.List.{list_any}
 use Rattle.ds_base.specs.declared.geometry.Geom.{Geom}
 use Rattle.ds_base.specs.declared.sectors.Sector.{Sector}
 use Rattle.ds_image.specs.Guards.{GuardedBy}
-use Rattle.ds_image.specs.Looks.{Look}
-use Rattle.ds_image.specs.Pending.{Pair}
+use Rattle.ds_image_parts.specs.Looks.{Look}
+use Rattle.ds_image_parts.specs.Pending.{Pair}
 
 -- whether a pair is for this sector
 abbrev pub is_target : List Pair → ℕ → Bool

@@ -19,12 +19,12 @@ use Rattle.ds_tree.specs.declared.calls.CallOf.{CallOf}
 use Rattle.ds_tree.specs.declared.calls.TreeReply.{TreeReply}
 use Rattle.ds_image.specs.Formatted.{IsFormatted}
 use Rattle.ds_image.specs.Guards.{IsGuard}
-use Rattle.ds_image.specs.Logical.{IsLogical, laid_over}
-use Rattle.ds_image.specs.Looks.{Look, AreBlocks}
-use Rattle.ds_image.specs.Parts.{Parts}
-use Rattle.ds_image.specs.Pending.{Pair, ArePending}
+use Rattle.ds_image_parts.specs.Logical.{IsLogical, laid_over}
+use Rattle.ds_image_parts.specs.Looks.{Look, AreBlocks}
+use Rattle.ds_image_parts.specs.Parts.{Parts}
+use Rattle.ds_image_parts.specs.Pending.{Pair, ArePending}
 use Rattle.ds_image.specs.Planning.{Answers, AllKeep}
-use Rattle.ds_image.specs.Readings.{ReadsParts, SpellsHeader, SpellsSlot}
+use Rattle.ds_image_parts.specs.Readings.{ReadsParts, SpellsHeader, SpellsSlot}
 use Rattle.ds_image.specs.SeenValues.{SeenValue, HoldsLock, look_of}
 use Rattle.ds_image.specs.Sound.{StandsFor}
 use Rattle.ds_image.specs.declared.asks.Ask.{Ask}

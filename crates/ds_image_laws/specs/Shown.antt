@@ -9,10 +9,10 @@ use Rattle.ds_image.specs.Guards.{GuardedBy}
 use Rattle.ds_image.specs.Asking.{targets_of}
 use Rattle.ds_layout.specs.declared.places.Place.{Place}
 use Rattle.ds_layout.specs.declared.places.Place.TheVariants as places
-use Rattle.ds_image.specs.Logical.{IsLogical, laid_over}
+use Rattle.ds_image_parts.specs.Logical.{IsLogical, laid_over}
 use Rattle.ds_layout.specs.Metadata.{IsMetadata}
-use Rattle.ds_image.specs.Pending.{Pair, ArePending}
-use Rattle.ds_image.specs.Readings.{SpellsSlot}
+use Rattle.ds_image_parts.specs.Pending.{Pair, ArePending}
+use Rattle.ds_image_parts.specs.Readings.{SpellsSlot}
 use Rattle.ds_image.specs.Sound.{StandsFor}
 use Rattle.ds_tree.specs.Nodes.{FileTree}
 

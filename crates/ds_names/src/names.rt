@@ -47,8 +47,8 @@ impl Names {
 
 impl Plan for Names {
     ghost use Rattle.std.specs.Prelude.{◌≡◌};
-    ghost use Rattle.ds_image.specs.Parts.{Parts};
-    ghost use Rattle.ds_image.specs.Readings.{ReadsParts};
+    ghost use Rattle.ds_image_parts.specs.Parts.{Parts};
+    ghost use Rattle.ds_image_parts.specs.Readings.{ReadsParts};
     ghost use Rattle.ds_image.specs.SeenValues.{look_of};
     ghost use Rattle.ds_names.specs.Calls.{answers_of, call_of, geom_of, slot_of};
     ghost use Rattle.ds_names.specs.Laws.{names_allowed, names_few, names_keep};

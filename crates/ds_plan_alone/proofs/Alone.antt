@@ -8,19 +8,19 @@ use Rattle.ds_base.specs.declared.geometry.Kind.TheVariants.{Fd}
 use Rattle.ds_base.specs.declared.names.Key.{Key}
 use Rattle.ds_base.specs.declared.sectors.Sector.{Sector}
 use Rattle.ds_image.specs.Asking.{Agrees, HasForm, IsFew, IsWorn, Keeps, Reached, Start, Locked, Given, IsRight}
-use Rattle.ds_image.specs.ImageValues.{IsImage}
+use Rattle.ds_image_parts.specs.ImageValues.{IsImage}
 use Rattle.ds_layout.specs.Metadata.{IsMetadata}
-use Rattle.ds_image.specs.Parts.{Parts, part_at}
+use Rattle.ds_image_parts.specs.Parts.{Parts, part_at}
 use Rattle.ds_image.specs.Planning.{Answers, Asks, AllKeep, AllAreFew}
 use Rattle.ds_image.specs.Planning.{AllGuarded}
-use Rattle.ds_image.specs.Readings.{ReadsParts}
+use Rattle.ds_image_parts.specs.Readings.{ReadsParts}
 use Rattle.ds_image.specs.SeenValues.{SeenValue, IsSeen, has_lock, look_of, sector_in, with_lock, with_sector}
 use Rattle.ds_image.specs.Sound.{StandsFor}
 use Rattle.ds_image.specs.declared.asks.Ask.{Ask}
 use Rattle.ds_image.specs.declared.asks.Ask.TheVariants.{Lock, Read, Odd, Worn, Done, Change}
 use Rattle.ds_image.proofs.Spelling.Sizes.{part_within}
 use Rattle.ds_image.proofs.Reaching.{all-few, all-fresh, all-guarded}
-use Rattle.ds_image.specs.Objects.{node_by}
+use Rattle.ds_image_parts.specs.Objects.{node_by}
 use Rattle.ds_image.proofs.Seeing.{sector_in-append, seen_read}
 use Rattle.ds_tree.specs.CallNames.{HasNames}
 use Rattle.ds_plan_base.proofs.Dirs.{body_in, object_in}

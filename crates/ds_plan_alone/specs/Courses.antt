@@ -4,8 +4,8 @@ use Rattle.ds_base.specs.declared.geometry.Geom.{Geom}
 use Rattle.ds_base.specs.declared.names.Key.{Key}
 use Rattle.ds_base.specs.declared.sectors.Sector.{Sector}
 use Rattle.ds_image.specs.Asking.{makes_object}
-use Rattle.ds_image.specs.Logical.{laid_over}
-use Rattle.ds_image.specs.Pending.{Pair}
+use Rattle.ds_image_parts.specs.Logical.{laid_over}
+use Rattle.ds_image_parts.specs.Pending.{Pair}
 use Rattle.ds_image.specs.Planning.{Answers, Asks}
 use Rattle.ds_image.specs.Planning.{AllGuarded}
 use Rattle.ds_image.specs.SeenValues.{SeenValue, with_lock, with_sector}

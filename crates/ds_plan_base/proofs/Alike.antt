@@ -11,10 +11,10 @@ use Rattle.ds_dir.specs.SubBlock.{IsSubBlock, sub_bytes}
 use Rattle.ds_dir.specs.declared.sub_block.SubBlock.{SubBlock}
 use Rattle.ds_fd.specs.Body.{IsBody, body_bytes}
 use Rattle.ds_fd.specs.declared.body.Body.{Body}
-use Rattle.ds_image.specs.Looks.{Look}
-use Rattle.ds_image.specs.Parts.{Parts, part_at}
-use Rattle.ds_image.specs.Readings.{ReadsParts, SpellsBody, SpellsSub, SpellsPtr}
-use Rattle.ds_image.proofs.Spelling.Decoded.{decoded_same, numbered_at, spelled_at}
+use Rattle.ds_image_parts.specs.Looks.{Look}
+use Rattle.ds_image_parts.specs.Parts.{Parts, part_at}
+use Rattle.ds_image_parts.specs.Readings.{ReadsParts, SpellsBody, SpellsSub, SpellsPtr}
+use Rattle.ds_image_parts.proofs.Spelling.Decoded.{decoded_same, numbered_at, spelled_at}
 use Rattle.ds_layout.specs.Places.{place_sector}
 use Rattle.ds_layout.specs.declared.places.Place.TheVariants as places
 use Rattle.ds_plan_base.specs.Bodies.{part_seen}

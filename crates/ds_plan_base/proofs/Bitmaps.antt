@@ -10,10 +10,10 @@ use Rattle.ds_base.specs.declared.geometry.GeomField.TheVariants.{Clusters}
 use Rattle.ds_base.specs.declared.geometry.Kind.{Kind}
 use Rattle.ds_base.specs.declared.sectors.Sector.{Sector}
 use Rattle.ds_bitmap.specs.Bits.{Bitmap, IsBits, bits_bytes, AllUsed, IsFirstFree}
-use Rattle.ds_image.specs.Looks.{Look}
-use Rattle.ds_image.specs.Parts.{Parts, part_at, maps_of}
-use Rattle.ds_image.specs.Readings.{ReadsParts, SpellsBits}
-use Rattle.ds_image.proofs.Spelling.Decoded.{decoded_same, spelled_at}
+use Rattle.ds_image_parts.specs.Looks.{Look}
+use Rattle.ds_image_parts.specs.Parts.{Parts, part_at, maps_of}
+use Rattle.ds_image_parts.specs.Readings.{ReadsParts, SpellsBits}
+use Rattle.ds_image_parts.proofs.Spelling.Decoded.{decoded_same, spelled_at}
 use Rattle.ds_layout.specs.Places.{place_sector}
 use Rattle.ds_layout.specs.declared.places.Place.TheVariants as places
 use Rattle.ds_image.specs.SeenValues.{SeenValue}

@@ -12,12 +12,12 @@ use Rattle.ds_base.specs.declared.sectors.Sector.{Sector}
 use Rattle.ds_bitmap.specs.Bits.{Bitmap, bits_bytes}
 use Rattle.ds_plan_laws_gone.specs.MapWrites.{MapWrite, map_pairs, ChangesMap, AreWrittenOnce, IsClearedOf, ClearsMaps}
 use Rattle.ds_image.specs.Asking.{Agrees}
-use Rattle.ds_image.specs.Parts.{Parts, part_at, maps_of, bits_in}
-use Rattle.ds_image.specs.Readings.{ReadsParts}
+use Rattle.ds_image_parts.specs.Parts.{Parts, part_at, maps_of, bits_in}
+use Rattle.ds_image_parts.specs.Readings.{ReadsParts}
 use Rattle.ds_image.specs.SeenValues.{SeenValue, look_of}
 use Rattle.ds_image.specs.Sound.{StandsFor}
 use Rattle.ds_image.proofs.Ownership.Listed.{bits_length}
-use Rattle.ds_image.proofs.Spelling.Places.{at-append, at-append_left, at-append_right, at-from_Contains, marked-within}
+use Rattle.ds_image_tables.proofs.Spelling.Places.{at-append, at-append_left, at-append_right, at-from_Contains, marked-within}
 use Rattle.ds_plan_base.specs.Giving.{Maps, map_sector, map_sectors}
 use Rattle.ds_plan_base.proofs.GivingWalk.{AreMarked, map-known, map-in}
 use Rattle.ds_plan_base.proofs.MapsLeft.{IsWithout, without-is, AreLeft}

@@ -23,10 +23,10 @@ use Rattle.ds_dir.specs.declared.sub_block.SubBlock.{SubBlock}
 use Rattle.ds_fd.specs.declared.body.Body.{Body}
 use Rattle.ds_image.specs.Asking.{Agrees}
 use Rattle.ds_image.specs.Guards.{lister_or}
-use Rattle.ds_image.specs.Objects.{subs_by, subs_of, rooms_in, rooms_of, used_rooms}
-use Rattle.ds_image.specs.Owns.{IsAt}
-use Rattle.ds_image.specs.Parts.{Parts, part_at}
-use Rattle.ds_image.specs.Readings.{ReadsParts}
+use Rattle.ds_image_parts.specs.Objects.{subs_by, subs_of, rooms_in, rooms_of, used_rooms}
+use Rattle.ds_image_tables.specs.Owns.{IsAt}
+use Rattle.ds_image_parts.specs.Parts.{Parts, part_at}
+use Rattle.ds_image_parts.specs.Readings.{ReadsParts}
 use Rattle.ds_image.specs.SeenValues.{SeenValue, look_of}
 use Rattle.ds_image.specs.Sound.{StandsFor, sub_lists}
 use Rattle.ds_image.specs.declared.asks.Ask.{Ask}
@@ -41,7 +41,7 @@ use Rattle.ds_plan_base.specs.Bodies.{part_seen, sub_seen}
 use Rattle.ds_plan_base.proofs.DirAsks.{DirAsks}
 use Rattle.ds_plan_base.proofs.DirSeen.{HasDir, HasSub, said_entry, IsFoundIn, AreAllIn}
 use Rattle.ds_plan_base.specs.Entries.{named_among, found_at, found_from, found_in, subs_known}
-use Rattle.ds_image.specs.Objects.{entry_named}
+use Rattle.ds_image_parts.specs.Objects.{entry_named}
 use Rattle.ds_plan_base.proofs.Goes.{Goes}
 use Rattle.ds_plan_base.specs.Steps.{or_later}
 use Rattle.ds_plan_base.specs.declared.entries.Named.{Named}

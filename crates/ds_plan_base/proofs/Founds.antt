@@ -5,13 +5,13 @@ use Rattle.ds_base.specs.declared.geometry.Geom.{Geom}
 use Rattle.ds_dir.specs.declared.sub_block.Entry.{Entry}
 use Rattle.ds_dir.specs.declared.sub_block.SubBlock.{SubBlock}
 use Rattle.ds_fd.specs.declared.body.Body.{Body}
-use Rattle.ds_image.specs.Objects.{subs_of, used_rooms}
-use Rattle.ds_image.specs.Parts.{Parts}
-use Rattle.ds_image.specs.Readings.{ReadsParts}
+use Rattle.ds_image_parts.specs.Objects.{subs_of, used_rooms}
+use Rattle.ds_image_parts.specs.Parts.{Parts}
+use Rattle.ds_image_parts.specs.Readings.{ReadsParts}
 use Rattle.ds_image.specs.SeenValues.{SeenValue, look_of}
 use Rattle.ds_plan_base.specs.Bodies.{sub_seen}
 use Rattle.ds_plan_base.specs.Entries.{named_among, found_at, found_from, found_in, entry_by, wanted_entry}
-use Rattle.ds_image.specs.Objects.{entry_named}
+use Rattle.ds_image_parts.specs.Objects.{entry_named}
 use Rattle.ds_plan_base.specs.Objects.{IsFoundRoom}
 use Rattle.ds_plan_base.specs.Steps.{or_later}
 use Rattle.ds_plan_base.specs.declared.entries.Found.{Found}

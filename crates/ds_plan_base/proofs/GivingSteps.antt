@@ -5,8 +5,8 @@ use Rattle.ds_base.specs.Geometry.{clusters_of}
 use Rattle.ds_base.specs.declared.geometry.Geom.{Geom}
 use Rattle.ds_base.specs.declared.geometry.Kind.{Kind}
 use Rattle.ds_bitmap.specs.Bits.{Bitmap}
-use Rattle.ds_image.specs.Parts.{Parts}
-use Rattle.ds_image.specs.Pending.{Pair}
+use Rattle.ds_image_parts.specs.Parts.{Parts}
+use Rattle.ds_image_parts.specs.Pending.{Pair}
 use Rattle.ds_image.specs.SeenValues.{SeenValue}
 use Rattle.ds_jrnl.specs.declared.redo.Redo.{Redo}
 use Rattle.ds_plan_base.specs.Giving.{Maps, some_outside, is_touched, map_left, maps_from, map_sector, map_sectors, with_maps_left, given_up}

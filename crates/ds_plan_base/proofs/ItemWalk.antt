@@ -17,8 +17,8 @@ use Rattle.ds_bitmap.specs.Bits.{Bitmap}
 use Rattle.ds_image.proofs.Bits.{clear_count, clear-by_cluster}
 use Rattle.ds_plan_laws_new.proofs.FreeItems.{free-clear}
 use Rattle.ds_image.specs.Asking.{Agrees}
-use Rattle.ds_image.specs.Parts.{Parts, part_at, maps_of, used_bits}
-use Rattle.ds_image.specs.Readings.{ReadsParts}
+use Rattle.ds_image_parts.specs.Parts.{Parts, part_at, maps_of, used_bits}
+use Rattle.ds_image_parts.specs.Readings.{ReadsParts}
 use Rattle.ds_image.specs.SeenValues.{SeenValue, has_lock, look_of}
 use Rattle.ds_image.specs.Sound.{StandsFor}
 use Rattle.ds_image.specs.declared.asks.Ask.{Ask}

@@ -7,8 +7,8 @@ use Rattle.ds_base.specs.declared.geometry.Geom.{Geom}
 use Rattle.ds_base.specs.declared.geometry.Kind.{Kind}
 use Rattle.ds_base.specs.declared.names.Key.{Key}
 use Rattle.ds_base.specs.declared.sectors.Sector.{Sector}
-use Rattle.ds_image.specs.Parts.{Parts, part_at, maps_of}
-use Rattle.ds_image.specs.Readings.{ReadsParts}
+use Rattle.ds_image_parts.specs.Parts.{Parts, part_at, maps_of}
+use Rattle.ds_image_parts.specs.Readings.{ReadsParts}
 use Rattle.ds_image.specs.SeenValues.{SeenValue, has_lock, look_of}
 use Rattle.ds_image.specs.declared.asks.Ask.{Ask}
 use Rattle.ds_image.specs.declared.asks.Ask.TheVariants as asks

@@ -9,11 +9,11 @@ use Rattle.ds_base.specs.Geometry.{clusters_of, per_cluster}
 use Rattle.ds_base.specs.declared.geometry.Geom.{Geom}
 use Rattle.ds_base.specs.declared.geometry.Kind.{Kind}
 use Rattle.ds_bitmap.specs.Bits.{Bitmap}
-use Rattle.ds_image.specs.Owned.{with_marks}
-use Rattle.ds_image.specs.Owns.{bit}
-use Rattle.ds_image.specs.Parts.{Parts}
+use Rattle.ds_image_tables.specs.Owned.{with_marks}
+use Rattle.ds_image_tables.specs.Owns.{bit}
+use Rattle.ds_image_parts.specs.Parts.{Parts}
 use Rattle.ds_image.specs.SeenValues.{SeenValue}
-use Rattle.ds_image.proofs.Spelling.Places.{Contains-from_at, at-from_Contains}
+use Rattle.ds_image_tables.proofs.Spelling.Places.{Contains-from_at, at-from_Contains}
 use Rattle.ds_layout.specs.Places.{place_sector}
 use Rattle.ds_layout.specs.declared.places.Place.TheVariants as places
 use Rattle.ds_plan_base.specs.Giving.{Maps, is_touched, map_given, map_without, or_odd, map_left, maps_from}

@@ -9,9 +9,9 @@ use Rattle.ds_bitmap.specs.Bits.{Bitmap, IsBits}
 use Rattle.ds_dir.specs.declared.sub_block.SubBlock.{SubBlock}
 use Rattle.ds_fd.specs.declared.body.Body.{Body}
 use Rattle.ds_image.specs.Asking.{Agrees, AreTargets, IsReadable, IsRightChange, IsWorn, targets_of}
-use Rattle.ds_image.specs.Objects.{subs_of, used_rooms}
-use Rattle.ds_image.specs.Parts.{Parts, part_at, maps_of}
-use Rattle.ds_image.specs.Pending.{Pair}
+use Rattle.ds_image_parts.specs.Objects.{subs_of, used_rooms}
+use Rattle.ds_image_parts.specs.Parts.{Parts, part_at, maps_of}
+use Rattle.ds_image_parts.specs.Pending.{Pair}
 use Rattle.ds_image.specs.SeenValues.{SeenValue, has_lock, look_of}
 use Rattle.ds_image.specs.Sound.{StandsFor}
 use Rattle.ds_image.specs.declared.asks.Ask.{Ask}
@@ -22,7 +22,7 @@ use Rattle.ds_plan_base.specs.Items.{IsFreeItem, first_clear}
 use Rattle.ds_plan_base.specs.declared.items.FreeItem.{FreeItem}
 use Rattle.ds_plan_base.proofs.DirAsks.{FitsNone, IsKnown}
 use Rattle.ds_plan_base.proofs.DirSeen.{HasDir, HasSub}
-use Rattle.ds_image.specs.Objects.{entry_named}
+use Rattle.ds_image_parts.specs.Objects.{entry_named}
 use Rattle.ds_image.specs.Locks.{MayLock}
 use Rattle.ds_tree.specs.Nodes.{FileTree}
 use Rattle.ds_tree.specs.declared.calls.CallOf.{CallOf}

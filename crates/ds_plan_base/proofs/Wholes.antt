@@ -17,9 +17,9 @@ use Rattle.ds_dir.specs.declared.sub_block.Entry.{Entry}
 use Rattle.ds_dir.specs.declared.sub_block.SubBlock.{SubBlock}
 use Rattle.ds_fd.specs.declared.body.Body.{Body}
 use Rattle.ds_image.specs.Asking.{Agrees}
-use Rattle.ds_image.specs.Objects.{subs_by, subs_of, used_rooms, entries_of}
-use Rattle.ds_image.specs.Parts.{Parts, part_at}
-use Rattle.ds_image.specs.Readings.{ReadsParts}
+use Rattle.ds_image_parts.specs.Objects.{subs_by, subs_of, used_rooms, entries_of}
+use Rattle.ds_image_parts.specs.Parts.{Parts, part_at}
+use Rattle.ds_image_parts.specs.Readings.{ReadsParts}
 use Rattle.ds_image.specs.SeenValues.{SeenValue, has_lock, look_of}
 use Rattle.ds_image.specs.Sound.{StandsFor}
 use Rattle.ds_image.specs.SoundObjects.{AreNamesApart}
@@ -40,7 +40,7 @@ use Rattle.ds_plan_base.specs.Bodies.{dir_of_key, sub_seen}
 use Rattle.ds_plan_base.proofs.DirAsks.{dir_sectors, DirAsks}
 use Rattle.ds_plan_base.proofs.DirSeen.{HasDir, HasSub, IsFoundIn, said_found, said_entry}
 use Rattle.ds_plan_base.specs.Entries.{named_among, found_at, found_from, found_in}
-use Rattle.ds_image.specs.Objects.{entry_named}
+use Rattle.ds_image_parts.specs.Objects.{entry_named}
 use Rattle.ds_plan_base.proofs.Goes.{Goes}
 use Rattle.ds_image.specs.Locks.{MayLock, of_key, keys_of, TakesName}
 use Rattle.ds_plan_base.specs.Steps.{after, or_later}

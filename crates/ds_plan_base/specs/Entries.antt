@@ -4,8 +4,8 @@ use Rattle.ds_base.specs.declared.geometry.Geom.{Geom}
 use Rattle.ds_dir.specs.declared.sub_block.Entry.{Entry}
 use Rattle.ds_dir.specs.declared.sub_block.SubBlock.{SubBlock}
 use Rattle.ds_fd.specs.declared.body.Body.{Body}
-use Rattle.ds_image.specs.Objects.{subs_of}
-use Rattle.ds_image.specs.Parts.{Parts}
+use Rattle.ds_image_parts.specs.Objects.{subs_of}
+use Rattle.ds_image_parts.specs.Parts.{Parts}
 use Rattle.ds_image.specs.SeenValues.{SeenValue}
 use Rattle.ds_plan_base.specs.Bodies.{sub_seen}
 use Rattle.ds_plan_base.specs.Steps.{after, or_later}

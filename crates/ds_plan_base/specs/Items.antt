@@ -4,7 +4,7 @@ use Rattle.ds_base.specs.Geometry.{clusters_of, per_cluster}
 use Rattle.ds_base.specs.declared.geometry.Geom.{Geom}
 use Rattle.ds_base.specs.declared.geometry.Kind.{Kind}
 use Rattle.ds_bitmap.specs.Bits.{Bitmap, IsBits}
-use Rattle.ds_image.specs.Parts.{Parts, part_at, maps_of}
+use Rattle.ds_image_parts.specs.Parts.{Parts, part_at, maps_of}
 use Rattle.ds_image.specs.SeenValues.{SeenValue, has_lock, look_of}
 use Rattle.ds_layout.specs.Places.{cluster_lock, place_sector}
 use Rattle.ds_layout.specs.declared.places.Place.TheVariants as places

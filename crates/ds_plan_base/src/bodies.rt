@@ -4,8 +4,8 @@ ghost use Rattle.ds_base.specs.Geometry.{IsGeom, items_of};
 ghost use Rattle.ds_base.specs.declared.geometry.Kind.TheVariants.{Fd, Sb};
 ghost use Rattle.ds_dir.specs.SubBlock.{IsSubBlock};
 ghost use Rattle.ds_fd.specs.Body.{IsBody};
-ghost use Rattle.ds_image.specs.Parts.{Parts, part_at};
-ghost use Rattle.ds_image.specs.Readings.{ReadsParts};
+ghost use Rattle.ds_image_parts.specs.Parts.{Parts, part_at};
+ghost use Rattle.ds_image_parts.specs.Readings.{ReadsParts};
 ghost use Rattle.ds_image.specs.SeenValues.{IsSeen, look_of};
 ghost use Rattle.ds_plan_base.specs.Bodies.{body_of_key, dir_of_key, body_seen, body_of_dir, sub_seen, body_alive};
 

@@ -3,9 +3,9 @@ ghost use Rattle.std.specs.Prelude.{◌≡◌, ◌<◌, ◌≤◌, Some, length,
 ghost use Rattle.ds_base.specs.Geometry.{IsGeom, items_of};
 ghost use Rattle.ds_base.specs.declared.geometry.Kind.TheVariants.{Fd, Sb};
 ghost use Rattle.ds_dir.specs.SubBlock.{IsSubBlock};
-ghost use Rattle.ds_image.specs.Objects.{subs_of};
-ghost use Rattle.ds_image.specs.Parts.{Parts};
-ghost use Rattle.ds_image.specs.Readings.{ReadsParts};
+ghost use Rattle.ds_image_parts.specs.Objects.{subs_of};
+ghost use Rattle.ds_image_parts.specs.Parts.{Parts};
+ghost use Rattle.ds_image_parts.specs.Readings.{ReadsParts};
 ghost use Rattle.ds_image.specs.SeenValues.{look_of};
 ghost use Rattle.ds_plan_base.specs.Entries.{found_among, found_in, named_among, room_named, wanted_entry};
 ghost use Rattle.ds_plan_base.specs.Objects.{IsFoundRoom};

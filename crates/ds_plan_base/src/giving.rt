@@ -2,8 +2,8 @@
 ghost use Rattle.std.specs.Prelude.{◌≡◌, ◌+◌, ◌<◌, ◌≤◌, length, IfOk};
 ghost use Rattle.ds_base.specs.Geometry.{IsGeom, clusters_of, items_of, per_cluster};
 ghost use Rattle.ds_bitmap.specs.Bits.{IsBits};
-ghost use Rattle.ds_image.specs.Parts.{Parts};
-ghost use Rattle.ds_image.specs.Readings.{ReadsParts};
+ghost use Rattle.ds_image_parts.specs.Parts.{Parts};
+ghost use Rattle.ds_image_parts.specs.Readings.{ReadsParts};
 ghost use Rattle.ds_image.specs.SeenValues.{look_of};
 ghost use Rattle.ds_plan_base.specs.Giving.{given_up, is_touched, map_left, map_without, some_outside};
 

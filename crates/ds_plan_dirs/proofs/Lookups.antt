@@ -12,9 +12,9 @@ use Rattle.ds_base.specs.declared.sectors.Sector.{Sector}
 use Rattle.ds_dir.specs.declared.sub_block.Entry.{Entry}
 use Rattle.ds_fd.specs.declared.body.Body.{Body}
 use Rattle.ds_image.specs.Asking.{HasItsBlock}
-use Rattle.ds_image.specs.Objects.{subs_by, subs_of, used_rooms, entries_of, node_by}
-use Rattle.ds_image.specs.Parts.{Parts, part_at}
-use Rattle.ds_image.specs.Readings.{ReadsParts}
+use Rattle.ds_image_parts.specs.Objects.{subs_by, subs_of, used_rooms, entries_of, node_by}
+use Rattle.ds_image_parts.specs.Parts.{Parts, part_at}
+use Rattle.ds_image_parts.specs.Readings.{ReadsParts}
 use Rattle.ds_image.specs.SeenValues.{SeenValue, look_of}
 use Rattle.ds_image.specs.Sound.{StandsFor, IsNamedRight}
 use Rattle.ds_image.specs.declared.asks.Ask.{Ask}
@@ -25,7 +25,7 @@ use Rattle.ds_plan_base.specs.Bodies.{dir_of_key}
 use Rattle.ds_plan_base.proofs.DirAsks.{DirAsks}
 use Rattle.ds_plan_base.proofs.DirSeen.{HasDir, said_found, said_entry, IsFoundIn}
 use Rattle.ds_plan_base.specs.Entries.{found_in}
-use Rattle.ds_image.specs.Objects.{entry_named}
+use Rattle.ds_image_parts.specs.Objects.{entry_named}
 use Rattle.ds_plan_base.specs.Steps.{settled}
 use Rattle.ds_plan_base.specs.declared.entries.Found.{Found}
 use Rattle.ds_plan_base.proofs.Dirs.{dir_goes, dir_in, object_in}

@@ -10,10 +10,10 @@ use Rattle.ds_base.specs.declared.names.Key.{Key}
 use Rattle.ds_dir.specs.declared.sub_block.Entry.{Entry}
 use Rattle.ds_dir.specs.declared.sub_block.SubBlock.{SubBlock}
 use Rattle.ds_fd.specs.declared.body.Body.{Body}
-use Rattle.ds_image.specs.Objects.{rooms_in, used_rooms}
-use Rattle.ds_image.specs.Parts.{Parts}
+use Rattle.ds_image_parts.specs.Objects.{rooms_in, used_rooms}
+use Rattle.ds_image_parts.specs.Parts.{Parts}
 use Rattle.ds_image.specs.SeenValues.{SeenValue}
-use Rattle.ds_image.proofs.Ownership.ListedItems.{used_rooms-more}
+use Rattle.ds_image_parts.proofs.Ownership.ListedItems.{used_rooms-more}
 use Rattle.ds_plan_dirs.specs.Answers.{page_known}
 use Rattle.ds_plan_dirs.specs.Pages.{name_cmp, page_names, page_of}
 use Rattle.ds_plan_base.specs.Bodies.{sub_seen}

@@ -3,8 +3,8 @@ use Rattle.std.specs.Prelude.{ℕ, List, Option, Some, None, Result, Ok, ⊤}
 use Rattle.ds_base.specs.declared.geometry.Geom.{Geom}
 use Rattle.ds_base.specs.declared.names.Key.{Key}
 use Rattle.ds_fd.specs.declared.body.Body.{Body}
-use Rattle.ds_image.specs.Objects.{subs_of, used_rooms}
-use Rattle.ds_image.specs.Parts.{Parts}
+use Rattle.ds_image_parts.specs.Objects.{subs_of, used_rooms}
+use Rattle.ds_image_parts.specs.Parts.{Parts}
 use Rattle.ds_image.specs.Planning.{Answers}
 use Rattle.ds_image.specs.SeenValues.{SeenValue}
 use Rattle.ds_plan_dirs.specs.declared.reading.ReadCall.{ReadCall}

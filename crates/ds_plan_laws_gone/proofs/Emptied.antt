@@ -12,9 +12,9 @@ use Rattle.ds_dir.specs.SubBlock.{IsEntry, IsRoom, IsSubBlock}
 use Rattle.ds_dir.specs.declared.sub_block.Entry.{Entry}
 use Rattle.ds_dir.specs.declared.sub_block.SubBlock.{SubBlock}
 use Rattle.ds_fd.specs.declared.body.Body.{Body}
-use Rattle.ds_image.specs.Objects.{rooms_in, subs_of}
-use Rattle.ds_image.specs.Parts.{Parts, part_at, AllSpelled, maps_of, bits_in}
-use Rattle.ds_image.specs.Readings.{ReadsParts}
+use Rattle.ds_image_parts.specs.Objects.{rooms_in, subs_of}
+use Rattle.ds_image_parts.specs.Parts.{Parts, part_at, AllSpelled, maps_of, bits_in}
+use Rattle.ds_image_parts.specs.Readings.{ReadsParts}
 use Rattle.ds_image.specs.Sound.{IsSound}
 use Rattle.ds_image.proofs.Spelling.Sizes.{part_within}
 use Rattle.ds_image.proofs.Spelling.SoundParts.{all-at}
@@ -27,7 +27,7 @@ use Rattle.ds_plan_laws_gone.specs.Leaving.{ReadyToGo, given_up, changed_parts}
 use Rattle.ds_plan_laws_gone.specs.MapWrites.{MapWrite, with_all_maps}
 use Rattle.ds_plan_laws_gone.proofs.Gone.{GoesFrom}
 use Rattle.ds_plan_laws_gone.proofs.MapWrites.{SameButMaps, same-but_maps, all-written, clears-marks}
-use Rattle.ds_image.proofs.Ownership.Marking.{ClearsMarks}
+use Rattle.ds_image_tables.proofs.Ownership.Marking.{ClearsMarks}
 
 -- a sub-block with a room changed is one
 pub room-is_sub : (before after : SubBlock) (room : ℕ) (r : Option Entry) → IsSubBlock before → IsRoom r → after.rooms ≡ slice_set before.rooms room r → IsSubBlock after

@@ -17,8 +17,8 @@ use Rattle.ds_tree.specs.Nodes.{Entries, Node, Dir, FileTree, node_at, node_of_k
 use Rattle.ds_tree.specs.Steps.{in_dir, entry_node, is_dir, is_file, has_entries, refusal, refuses_remove, refuses_rmdir, Removes, Succeeds, Does}
 use Rattle.ds_tree.specs.WellFormed.{IsTree}
 use Rattle.ds_tree.specs.declared.calls.TreeReply.TheVariants.{Gone}
-use Rattle.ds_image.specs.Objects.{subs_of, subs_by, used_rooms, node_by}
-use Rattle.ds_image.specs.Parts.{Parts}
+use Rattle.ds_image_parts.specs.Objects.{subs_of, subs_by, used_rooms, node_by}
+use Rattle.ds_image_parts.specs.Parts.{Parts}
 use Rattle.ds_plan_laws_new.specs.Entering.{subs_in}
 use Rattle.ds_plan_laws_new.proofs.Names.{by_name}
 use Rattle.ds_plan_laws_gone.specs.Leaving.{go_call}

@@ -12,15 +12,15 @@ use Rattle.ds_base.specs.declared.geometry.Kind.TheVariants.{Fd, Sb, Pb, Fb}
 use Rattle.ds_dir.specs.declared.sub_block.Entry.{Entry}
 use Rattle.ds_fd.specs.declared.body.Body.{Body}
 use Rattle.ds_tree.specs.WellFormed.{IsTree}
-use Rattle.ds_image.specs.Objects.{subs_by, ptrs_by, blocks_by, tail_by, subs_of, ptrs_of, blocks_of, used_rooms, is_used, tree_of}
-use Rattle.ds_image.specs.Owns.{Owns, bit}
-use Rattle.ds_image.specs.Parts.{Parts, part_at, AllSpelled, maps_of, bits_in}
+use Rattle.ds_image_parts.specs.Objects.{subs_by, ptrs_by, blocks_by, tail_by, subs_of, ptrs_of, blocks_of, used_rooms, is_used, tree_of}
+use Rattle.ds_image_tables.specs.Owns.{Owns, bit}
+use Rattle.ds_image_parts.specs.Parts.{Parts, part_at, AllSpelled, maps_of, bits_in}
 use Rattle.ds_image.specs.Sound.{IsSound, IsNamedRight, AreZero, rooms_used_by}
 use Rattle.ds_image.specs.SoundObjects.{AreNamesApart, IsSoundObject, IsMarked}
 use Rattle.ds_image.proofs.FileTrees.EntryNames.{find-at, get-entries}
-use Rattle.ds_image.proofs.Ownership.Marking.{clears-one, ClearsMarks}
+use Rattle.ds_image_tables.proofs.Ownership.Marking.{clears-one, ClearsMarks}
 use Rattle.ds_image.proofs.FileTrees.NamesApart.{apart-none}
-use Rattle.ds_image.proofs.Spelling.Places.{at-append_right}
+use Rattle.ds_image_tables.proofs.Spelling.Places.{at-append_right}
 use Rattle.ds_image.proofs.Spelling.Sizes.{part_within}
 use Rattle.ds_image.proofs.Spelling.SoundParts.{all-from_at, list-is, sound-from, objects-of}
 use Rattle.ds_image.proofs.FileTrees.TreeParts.{name-from_entry}

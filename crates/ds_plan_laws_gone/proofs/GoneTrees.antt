@@ -9,8 +9,8 @@ use Rattle.ds_dir.specs.declared.sub_block.Entry.{Entry}
 use Rattle.ds_fd.specs.declared.body.Body.{Body}
 use Rattle.ds_tree.specs.Nodes.{Entries, Node, Dir, Object, FileTree, unborn, object_at, node_at, birth_at, with_object, with_node}
 use Rattle.ds_tree.specs.Steps.{Removes}
-use Rattle.ds_image.specs.Objects.{node_by, object_of, tree_of, entries_of, used_rooms}
-use Rattle.ds_image.specs.Parts.{Parts, part_at}
+use Rattle.ds_image_parts.specs.Objects.{node_by, object_of, tree_of, entries_of, used_rooms}
+use Rattle.ds_image_parts.specs.Parts.{Parts, part_at}
 use Rattle.ds_image.specs.Sound.{IsSound}
 use Rattle.ds_image.proofs.FileTrees.EntryNames.{find-at, get-entries}
 use Rattle.ds_image.proofs.FileTrees.TreeParts.{object-is, objects-are}

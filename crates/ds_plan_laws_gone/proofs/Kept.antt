@@ -8,12 +8,12 @@ use Rattle.ds_base.specs.declared.geometry.Kind.{Kind}
 use Rattle.ds_base.specs.declared.names.NodeKind.TheVariants as kinds
 use Rattle.ds_dir.specs.declared.sub_block.Entry.{Entry}
 use Rattle.ds_fd.specs.declared.body.Body.{Body}
-use Rattle.ds_image.specs.Objects.{subs_by, ptrs_by, blocks_by, tail_by, subs_of, ptrs_of, blocks_of, used_rooms, is_used}
-use Rattle.ds_image.specs.Owns.{Owns, list_of}
-use Rattle.ds_image.specs.Parts.{Parts, part_at, AllSpelled, maps_of, bits_in}
+use Rattle.ds_image_parts.specs.Objects.{subs_by, ptrs_by, blocks_by, tail_by, subs_of, ptrs_of, blocks_of, used_rooms, is_used}
+use Rattle.ds_image_tables.specs.Owns.{Owns, list_of}
+use Rattle.ds_image_parts.specs.Parts.{Parts, part_at, AllSpelled, maps_of, bits_in}
 use Rattle.ds_image.specs.Sound.{IsSound, IsNamedRight, AreZero, sub_lists, ptr_lists, block_lists, rooms_used_by}
 use Rattle.ds_image.specs.SoundObjects.{AreNamesApart, IsSoundObject, IsMarked}
-use Rattle.ds_image.proofs.Ownership.Owning.{owns-alike}
+use Rattle.ds_image_tables.proofs.Ownership.Owning.{owns-alike}
 use Rattle.ds_image.proofs.Spelling.Sizes.{part_within}
 use Rattle.ds_image.proofs.Spelling.SoundParts.{all-from_at, list-is, sound-from, objects-of}
 use Rattle.ds_plan_laws_new.specs.Entering.{subs_in}

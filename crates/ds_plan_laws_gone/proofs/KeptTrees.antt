@@ -3,8 +3,8 @@ use Rattle.std.proofs.Common.{◌≡◌, ◌≢◌, ℕ, ◌*◌, length, Some, 
 use Rattle.std.proofs.lemmas.List.{ext_get_or, length-map}
 use Rattle.ds_fd.specs.declared.body.Body.{Body}
 use Rattle.ds_tree.specs.Nodes.{Dir, FileTree, unborn, object_at}
-use Rattle.ds_image.specs.Objects.{node_by, object_of, tree_of, entries_of, subs_of, used_rooms}
-use Rattle.ds_image.specs.Parts.{Parts, part_at}
+use Rattle.ds_image_parts.specs.Objects.{node_by, object_of, tree_of, entries_of, subs_of, used_rooms}
+use Rattle.ds_image_parts.specs.Parts.{Parts, part_at}
 use Rattle.ds_image.proofs.FileTrees.TreeParts.{object-is, objects-are}
 use Rattle.ds_plan_laws_new.specs.Entering.{subs_in}
 use Rattle.ds_plan_laws_new.proofs.NewBodies.{object-same}

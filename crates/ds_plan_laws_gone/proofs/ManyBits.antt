@@ -8,14 +8,14 @@ use Rattle.ds_base.specs.Geometry.{clusters_of, per_cluster, items_of}
 use Rattle.ds_base.specs.declared.geometry.Geom.{Geom}
 use Rattle.ds_base.specs.declared.geometry.Kind.{Kind}
 use Rattle.ds_bitmap.specs.Bits.{Bitmap}
-use Rattle.ds_image.specs.Looks.{Look}
-use Rattle.ds_image.specs.Owns.{bit}
-use Rattle.ds_image.specs.Parts.{part_at, AllSpelled, bits_in}
-use Rattle.ds_image.specs.Readings.{SpellsBits, IsReading}
+use Rattle.ds_image_parts.specs.Looks.{Look}
+use Rattle.ds_image_tables.specs.Owns.{bit}
+use Rattle.ds_image_parts.specs.Parts.{part_at, AllSpelled, bits_in}
+use Rattle.ds_image_parts.specs.Readings.{SpellsBits, IsReading}
 use Rattle.ds_image.proofs.Ownership.Listed.{bits_length}
-use Rattle.ds_image.proofs.Spelling.Places.{marked-within}
+use Rattle.ds_image_tables.proofs.Spelling.Places.{marked-within}
 use Rattle.ds_image.proofs.Bits.{bits-get}
-use Rattle.ds_image.proofs.Ownership.Marking.{ClearsMarks}
+use Rattle.ds_image_tables.proofs.Ownership.Marking.{ClearsMarks}
 
 pub some-is : {V : Type 0} (r : Option V) → IsSome r → (v : V) × (r ≡ Some v)
 some-is None some = absurd (false≢true some)

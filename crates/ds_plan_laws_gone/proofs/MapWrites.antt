@@ -11,12 +11,12 @@ use Rattle.ds_base.specs.declared.sectors.Sector.{Sector}
 use Rattle.ds_bitmap.specs.Bits.{Bitmap, IsBits, bits_bytes}
 use Rattle.ds_layout.specs.Places.{place_sector}
 use Rattle.ds_layout.specs.declared.places.Place.TheVariants as places
-use Rattle.ds_image.specs.Logical.{laid_over}
-use Rattle.ds_image.specs.Owns.{bit}
-use Rattle.ds_image.specs.Parts.{Parts, part_at, AllSpelled, maps_of, bits_in}
-use Rattle.ds_image.specs.Readings.{ReadsParts}
+use Rattle.ds_image_parts.specs.Logical.{laid_over}
+use Rattle.ds_image_tables.specs.Owns.{bit}
+use Rattle.ds_image_parts.specs.Parts.{Parts, part_at, AllSpelled, maps_of, bits_in}
+use Rattle.ds_image_parts.specs.Readings.{ReadsParts}
 use Rattle.ds_image.proofs.Ownership.Listed.{bits_length}
-use Rattle.ds_image.proofs.Spelling.Places.{marked-within}
+use Rattle.ds_image_tables.proofs.Spelling.Places.{marked-within}
 use Rattle.ds_plan_laws_new.specs.Changed.{with_maps}
 use Rattle.ds_image.proofs.Bits.{all-put}
 use Rattle.ds_plan_laws_new.proofs.Frames.{reads-map}
@@ -24,7 +24,7 @@ use Rattle.ds_plan_laws_new.proofs.Spelling.{map-at}
 use Rattle.ds_plan_laws_gone.specs.MapWrites.{MapWrite, map_pairs, with_map, with_all_maps, BitChange, ChangesMap, ChangesMaps, IsUnwritten, AreWrittenOnce, IsClearedOf, IsReplacedBy, ClearsMaps}
 use Rattle.ds_plan_laws_gone.specs.Replaced.{ReplacesMarks}
 use Rattle.ds_plan_laws_gone.proofs.ManyBits.{some-is, bits-each, bits-count, clears-each}
-use Rattle.ds_image.proofs.Ownership.Marking.{ClearsMarks}
+use Rattle.ds_image_tables.proofs.Ownership.Marking.{ClearsMarks}
 
 pub same-kind_or_not : (a b : Kind) → (a ≡ b) ⊎ (a ≢ b)
 same-kind_or_not Fd Fd = inl refl

@@ -6,8 +6,8 @@ use Rattle.ds_base.specs.declared.names.Key.{Key}
 use Rattle.ds_dir.specs.declared.sub_block.Entry.{Entry}
 use Rattle.ds_fd.specs.declared.body.Body.{Body}
 use Rattle.ds_tree.specs.Nodes.{Entries, Node, Dir, Object, FileTree, unborn, object_at, birth_at, with_node}
-use Rattle.ds_image.specs.Objects.{node_by, object_of, entries_of, subs_of, subs_by, tree_of, used_rooms}
-use Rattle.ds_image.specs.Parts.{Parts, part_at}
+use Rattle.ds_image_parts.specs.Objects.{node_by, object_of, entries_of, subs_of, subs_by, tree_of, used_rooms}
+use Rattle.ds_image_parts.specs.Parts.{Parts, part_at}
 use Rattle.ds_image.specs.Sound.{IsSound, IsNamedRight, rooms_used_by}
 use Rattle.ds_image.specs.SoundObjects.{AreNamesApart}
 use Rattle.ds_image.proofs.FileTrees.EntryNames.{find-at, get-entries}

@@ -19,9 +19,9 @@ use Rattle.ds_tree.specs.Steps.{is_dir, is_full, refusal, rooms_with_one_more, R
 use Rattle.ds_tree.specs.WellFormed.{IsTree}
 use Rattle.ds_tree.specs.declared.calls.CallOf.TheVariants.{Rename}
 use Rattle.ds_tree.specs.declared.calls.TreeReply.TheVariants.{Moved}
-use Rattle.ds_image.specs.Objects.{object_of, node_by, entries_of, tree_of}
-use Rattle.ds_image.specs.Parts.{Parts}
-use Rattle.ds_image.specs.Readings.{ReadsParts}
+use Rattle.ds_image_parts.specs.Objects.{object_of, node_by, entries_of, tree_of}
+use Rattle.ds_image_parts.specs.Parts.{Parts}
+use Rattle.ds_image_parts.specs.Readings.{ReadsParts}
 use Rattle.ds_image.specs.Sound.{IsSound, IsNamedRight}
 use Rattle.ds_image.proofs.FileTrees.DirNodes.{dir-rules}
 use Rattle.ds_image.proofs.FileTrees.TreeParts.{object-is}

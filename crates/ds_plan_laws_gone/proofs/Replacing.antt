@@ -2,10 +2,10 @@
 use Rattle.std.proofs.Common.{◌≡◌, ◌≢◌, ℕ, zero, suc, ◌<◌, ◌⊎◌, inl, inr, Bool, List, [], ◌∷◌, length, Some, slice_get, slice_set, sym, ap, subst, ◌∙◌, get_or-set_same, get_or-set_other, arith}
 use Rattle.std.specs.Prelude.{Contains}
 use Rattle.std.proofs.lemmas.Bool.{cases_eq, false≢true}
-use Rattle.ds_image.specs.Owns.{Owns, IsAt, list_of}
-use Rattle.ds_image.proofs.Spelling.Places.{Contains-from_at, at-from_Contains}
+use Rattle.ds_image_tables.specs.Owns.{Owns, IsAt, list_of}
+use Rattle.ds_image_tables.proofs.Spelling.Places.{Contains-from_at, at-from_Contains}
 use Rattle.ds_plan_laws_gone.specs.Replaced.{ReplacesItems, ReplacesMarks, CanReplace, BitsReplaced}
-use Rattle.ds_image.proofs.Ownership.Marking.{ClearsMarks}
+use Rattle.ds_image_tables.proofs.Ownership.Marking.{ClearsMarks}
 
 -- whether an item stands in a list
 pub contains-or_not : (xs : List ℕ) (x : ℕ) → Contains xs x ⊎ ¬ Contains xs x

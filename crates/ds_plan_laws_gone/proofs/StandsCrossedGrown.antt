@@ -26,17 +26,17 @@ use Rattle.ds_tree.specs.WellFormed.{IsTree}
 use Rattle.ds_tree.specs.declared.calls.CallOf.TheVariants.{Rename}
 use Rattle.ds_tree.specs.declared.calls.TreeReply.TheVariants.{Moved}
 use Rattle.ds_image.specs.Asking.{targets_of}
-use Rattle.ds_image.specs.Logical.{laid_over}
-use Rattle.ds_image.specs.Looks.{Look}
-use Rattle.ds_image.specs.Objects.{entries_of, subs_of, subs_by, tree_of, used_rooms}
-use Rattle.ds_image.specs.Owns.{IsAt}
-use Rattle.ds_image.specs.Parts.{Parts, bits_in}
-use Rattle.ds_image.specs.Pending.{Pair}
-use Rattle.ds_image.specs.Readings.{ReadsParts}
+use Rattle.ds_image_parts.specs.Logical.{laid_over}
+use Rattle.ds_image_parts.specs.Looks.{Look}
+use Rattle.ds_image_parts.specs.Objects.{entries_of, subs_of, subs_by, tree_of, used_rooms}
+use Rattle.ds_image_tables.specs.Owns.{IsAt}
+use Rattle.ds_image_parts.specs.Parts.{Parts, bits_in}
+use Rattle.ds_image_parts.specs.Pending.{Pair}
+use Rattle.ds_image_parts.specs.Readings.{ReadsParts}
 use Rattle.ds_image.specs.Sound.{StandsFor, IsSound, sub_lists}
 use Rattle.ds_image.specs.SoundObjects.{AreNamesApart}
-use Rattle.ds_image.proofs.Journaling.LaidOver.{whole-laid_over}
-use Rattle.ds_image.proofs.Spelling.Places.{at-append_right}
+use Rattle.ds_image_parts.proofs.Journaling.LaidOver.{whole-laid_over}
+use Rattle.ds_image_tables.proofs.Spelling.Places.{at-append_right}
 use Rattle.ds_image.proofs.Spelling.SoundParts.{objects-of}
 use Rattle.ds_plan_laws_new.specs.Entering.{subs_in}
 use Rattle.ds_image.specs.Guards.{GuardedBy}

@@ -14,13 +14,13 @@ use Rattle.ds_layout.specs.declared.places.Place.TheVariants as places
 use Rattle.ds_tree.specs.Nodes.{Dir, Object, FileTree, node_at, node_of_key}
 use Rattle.ds_tree.specs.WellFormed.{IsTree}
 use Rattle.ds_tree.specs.declared.calls.TreeReply.TheVariants.{Gone}
-use Rattle.ds_image.specs.Logical.{laid_over}
-use Rattle.ds_image.specs.Objects.{entries_of, tree_of}
-use Rattle.ds_image.specs.Parts.{Parts}
-use Rattle.ds_image.specs.Pending.{Pair}
-use Rattle.ds_image.specs.Readings.{ReadsParts}
+use Rattle.ds_image_parts.specs.Logical.{laid_over}
+use Rattle.ds_image_parts.specs.Objects.{entries_of, tree_of}
+use Rattle.ds_image_parts.specs.Parts.{Parts}
+use Rattle.ds_image_parts.specs.Pending.{Pair}
+use Rattle.ds_image_parts.specs.Readings.{ReadsParts}
 use Rattle.ds_image.specs.Sound.{StandsFor}
-use Rattle.ds_image.proofs.Journaling.LaidOver.{length-laid_over, laid_over-append, whole-laid_over}
+use Rattle.ds_image_parts.proofs.Journaling.LaidOver.{length-laid_over, laid_over-append, whole-laid_over}
 use Rattle.ds_plan_laws_new.specs.Entering.{subs_in}
 use Rattle.ds_plan_laws_new.specs.Making.{Leaves}
 use Rattle.ds_plan_laws_new.proofs.EnteredTrees.{dir-object}

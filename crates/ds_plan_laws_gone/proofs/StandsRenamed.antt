@@ -21,15 +21,15 @@ use Rattle.ds_tree.specs.WellFormed.{IsTree}
 use Rattle.ds_tree.specs.declared.calls.CallOf.TheVariants.{Rename}
 use Rattle.ds_tree.specs.declared.calls.TreeReply.TheVariants.{Moved}
 use Rattle.ds_image.specs.Asking.{targets_of}
-use Rattle.ds_image.specs.Logical.{laid_over}
-use Rattle.ds_image.specs.Looks.{Look}
-use Rattle.ds_image.specs.Objects.{object_of, entries_of, rooms_in, subs_of, subs_by, tree_of, used_rooms}
-use Rattle.ds_image.specs.Owns.{IsAt}
-use Rattle.ds_image.specs.Parts.{Parts, part_at}
-use Rattle.ds_image.specs.Pending.{Pair}
-use Rattle.ds_image.specs.Readings.{ReadsParts}
+use Rattle.ds_image_parts.specs.Logical.{laid_over}
+use Rattle.ds_image_parts.specs.Looks.{Look}
+use Rattle.ds_image_parts.specs.Objects.{object_of, entries_of, rooms_in, subs_of, subs_by, tree_of, used_rooms}
+use Rattle.ds_image_tables.specs.Owns.{IsAt}
+use Rattle.ds_image_parts.specs.Parts.{Parts, part_at}
+use Rattle.ds_image_parts.specs.Pending.{Pair}
+use Rattle.ds_image_parts.specs.Readings.{ReadsParts}
 use Rattle.ds_image.specs.Sound.{StandsFor, IsSound, IsNamedRight, sub_lists}
-use Rattle.ds_image.proofs.Journaling.LaidOver.{whole-laid_over}
+use Rattle.ds_image_parts.proofs.Journaling.LaidOver.{whole-laid_over}
 use Rattle.ds_image.proofs.Spelling.Sizes.{part_within}
 use Rattle.ds_image.proofs.Spelling.SoundParts.{objects-of}
 use Rattle.ds_image.proofs.FileTrees.TreeParts.{object-is}
@@ -38,7 +38,7 @@ use Rattle.ds_image.specs.Guards.{GuardedBy}
 use Rattle.ds_plan_laws_new.specs.Making.{Leaves}
 use Rattle.ds_plan_laws_new.specs.Puts.{IsPut}
 use Rattle.ds_plan_laws_new.proofs.EnteredTrees.{dir-object}
-use Rattle.ds_image.proofs.Journaling.LaidOver.{slice_get-set_same}
+use Rattle.ds_image_parts.proofs.Journaling.LaidOver.{slice_get-set_same}
 use Rattle.ds_plan_laws_new.proofs.Frames.{reads-sub}
 use Rattle.ds_plan_laws_new.proofs.Granting.{key-node}
 use Rattle.ds_image.proofs.SectorGuards.{guard-sub_listed}

@@ -7,9 +7,9 @@ use Rattle.ds_base.specs.declared.sectors.Sector.{Sector}
 use Rattle.ds_bitmap.specs.Bits.{Bitmap, bits_bytes}
 use Rattle.ds_layout.specs.Places.{place_sector}
 use Rattle.ds_layout.specs.declared.places.Place.TheVariants as places
-use Rattle.ds_image.specs.Owns.{bit}
-use Rattle.ds_image.specs.Parts.{Parts, part_at, maps_of}
-use Rattle.ds_image.specs.Pending.{Pair}
+use Rattle.ds_image_tables.specs.Owns.{bit}
+use Rattle.ds_image_parts.specs.Parts.{Parts, part_at, maps_of}
+use Rattle.ds_image_parts.specs.Pending.{Pair}
 use Rattle.ds_plan_laws_new.specs.Changed.{with_maps}
 
 -- a cluster's bitmap, and the sector that is written for it

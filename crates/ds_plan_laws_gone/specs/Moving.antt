@@ -10,7 +10,7 @@ use Rattle.ds_bitmap.specs.Bits.{Bitmap}
 use Rattle.ds_dir.specs.declared.sub_block.Entry.{Entry}
 use Rattle.ds_dir.specs.declared.sub_block.SubBlock.{SubBlock}
 use Rattle.ds_fd.specs.declared.body.Body.{Body}
-use Rattle.ds_image.specs.Parts.{Parts, part_at}
+use Rattle.ds_image_parts.specs.Parts.{Parts, part_at}
 use Rattle.ds_plan_laws_new.specs.Beginning.{SetsBit}
 use Rattle.ds_plan_laws_new.specs.Entering.{subs_in, LacksName, AddsRooms}
 use Rattle.ds_plan_laws_gone.specs.Leaving.{HasDir, EmptiesRoom}

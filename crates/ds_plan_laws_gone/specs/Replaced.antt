@@ -1,6 +1,6 @@
 -- How lists of items and marks change where an object lists other items than before.
 use Rattle.std.specs.Prelude.{◌≡◌, ◌≢◌, ◌↔◌, ◌⊎◌, ℕ, Bool, true, false, List, length, Contains, Some, slice_get}
-use Rattle.ds_image.specs.Owns.{list_of, bit}
+use Rattle.ds_image_tables.specs.Owns.{list_of, bit}
 
 -- object o lists these items, and every other object lists what it did
 pub record ReplacesItems (lists : List (List ℕ)) (o : ℕ) (items : List ℕ) (others : List (List ℕ)) : Type 0 where

@@ -12,8 +12,8 @@ use Rattle.ds_fd.specs.declared.body.Body.{Body}
 use Rattle.ds_tree.specs.Nodes.{Entries, Node, Dir, Object, FileTree, unborn, object_at, node_at, birth_at, with_object, with_node}
 use Rattle.ds_tree.specs.Steps.{Makes, rooms_with_one_more}
 use Rattle.ds_tree.specs.Trees.{empty_node}
-use Rattle.ds_image.specs.Objects.{node_by, object_of, tree_of, entries_of, used_rooms}
-use Rattle.ds_image.specs.Parts.{Parts, part_at}
+use Rattle.ds_image_parts.specs.Objects.{node_by, object_of, tree_of, entries_of, used_rooms}
+use Rattle.ds_image_parts.specs.Parts.{Parts, part_at}
 use Rattle.ds_image.proofs.FileTrees.TreeParts.{object-is, objects-are}
 use Rattle.ds_plan_laws_new.specs.Entering.{subs_in}
 use Rattle.ds_plan_laws_new.proofs.Entered.{EntersBodies, EntersParts, is_new, is_dir, is_other, where-is, apart, d-within, o-within, count-same}

@@ -10,13 +10,13 @@ use Rattle.ds_bitmap.specs.Bits.{Bitmap}
 use Rattle.ds_dir.specs.declared.sub_block.Entry.{Entry}
 use Rattle.ds_dir.specs.declared.sub_block.SubBlock.{SubBlock}
 use Rattle.ds_fd.specs.declared.body.Body.{Body}
-use Rattle.ds_image.specs.Looks.{Look}
-use Rattle.ds_image.specs.Objects.{rooms_in, subs_of}
-use Rattle.ds_image.specs.Owns.{Owns}
-use Rattle.ds_image.specs.Parts.{Parts, part_at, AllSpelled, maps_of, bits_in}
-use Rattle.ds_image.specs.Readings.{ReadsParts}
+use Rattle.ds_image_parts.specs.Looks.{Look}
+use Rattle.ds_image_parts.specs.Objects.{rooms_in, subs_of}
+use Rattle.ds_image_tables.specs.Owns.{Owns}
+use Rattle.ds_image_parts.specs.Parts.{Parts, part_at, AllSpelled, maps_of, bits_in}
+use Rattle.ds_image_parts.specs.Readings.{ReadsParts}
 use Rattle.ds_image.specs.Sound.{IsSound, sub_lists}
-use Rattle.ds_image.proofs.Ownership.Owning.{owns-alike}
+use Rattle.ds_image_tables.proofs.Ownership.Owning.{owns-alike}
 use Rattle.ds_image.proofs.Spelling.Sizes.{part_within}
 use Rattle.ds_image.proofs.Spelling.SoundParts.{each_kind, objects-of}
 use Rattle.ds_plan_laws_new.specs.Beginning.{SetsBit, Begins}

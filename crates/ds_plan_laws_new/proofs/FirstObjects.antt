@@ -21,10 +21,10 @@ use Rattle.ds_tree.specs.Nodes.{root_key}
 use Rattle.ds_image.proofs.NewVolumes.FreshLists.{made_at}
 use Rattle.ds_image.proofs.NewVolumes.FreshParts.{fresh_parts}
 use Rattle.ds_image.specs.Formatted.{fresh_body, fresh_bits}
-use Rattle.ds_image.specs.Parts.{Parts}
+use Rattle.ds_image_parts.specs.Parts.{Parts}
 use Rattle.ds_plan_laws_new.specs.Making.{ReadyToMake, ReadyToGrow}
 use Rattle.ds_plan_laws_new.proofs.Bodies.{empty-is_body, grown-is_body}
-use Rattle.ds_image.proofs.Journaling.LaidOver.{slice_get-set_other}
+use Rattle.ds_image_parts.proofs.Journaling.LaidOver.{slice_get-set_other}
 
 module _ (g : Geom) (is : IsGeom g) (two : 2 ≤ per_cluster g Fd) (name : List ℕ) (named : IsName name) (kind : NodeKind) where
   abbrev p : Parts

@@ -24,16 +24,16 @@ use Rattle.ds_layout.specs.declared.places.Place.TheVariants as places
 use Rattle.ds_ptr.proofs.Laws.{ptr_same}
 use Rattle.ds_ptr.specs.PtrBlock.{IsPtrBlock, ptr_bytes}
 use Rattle.ds_ptr.specs.declared.ptr_block.PtrBlock.{PtrBlock}
-use Rattle.ds_image.specs.Looks.{Look, HasBytes}
-use Rattle.ds_image.specs.Parts.{Parts, part_at, maps_of}
-use Rattle.ds_image.specs.Readings.{SpellsBody, SpellsBits, SpellsSub, SpellsPtr, IsReading, ReadsParts}
-use Rattle.ds_image.proofs.Spelling.Decoded.{decoded_as}
+use Rattle.ds_image_parts.specs.Looks.{Look, HasBytes}
+use Rattle.ds_image_parts.specs.Parts.{Parts, part_at, maps_of}
+use Rattle.ds_image_parts.specs.Readings.{SpellsBody, SpellsBits, SpellsSub, SpellsPtr, IsReading, ReadsParts}
+use Rattle.ds_image_parts.proofs.Spelling.Decoded.{decoded_as}
 use Rattle.ds_image.proofs.NewVolumes.FreshLists.{decoded_one}
-use Rattle.ds_image.proofs.Journaling.LaidOver.{slice_get-set_same, slice_get-set_other}
+use Rattle.ds_image_parts.proofs.Journaling.LaidOver.{slice_get-set_same, slice_get-set_other}
 use Rattle.ds_image.proofs.SameSectors.{reading-as, body-as, bits-as, sub-as, ptr-as}
 use Rattle.ds_image.proofs.Spelling.SoundParts.{each_kind}
 use Rattle.ds_image.proofs.NewVolumes.FreshVolume.{same_bytes}
-use Rattle.ds_image.proofs.Spelling.Readings.{few_clusters}
+use Rattle.ds_image_parts.proofs.Spelling.Readings.{few_clusters}
 use Rattle.ds_plan_laws_new.specs.Changed.{with_maps}
 
 -- Readings of which one part was put

@@ -17,12 +17,12 @@ use Rattle.ds_fd.specs.declared.body.Body.{Body}
 use Rattle.ds_layout.specs.Places.{cluster_lock, place_sector}
 use Rattle.ds_layout.specs.declared.places.Place.TheVariants as places
 use Rattle.ds_tree.specs.Nodes.{FileTree}
-use Rattle.ds_image.proofs.Spelling.Places.{at-append_right}
+use Rattle.ds_image_tables.proofs.Spelling.Places.{at-append_right}
 use Rattle.ds_image.specs.Asking.{targets_of}
-use Rattle.ds_image.specs.Looks.{Look}
-use Rattle.ds_image.specs.Parts.{Parts}
-use Rattle.ds_image.specs.Pending.{Pair}
-use Rattle.ds_image.specs.Readings.{ReadsParts}
+use Rattle.ds_image_parts.specs.Looks.{Look}
+use Rattle.ds_image_parts.specs.Parts.{Parts}
+use Rattle.ds_image_parts.specs.Pending.{Pair}
+use Rattle.ds_image_parts.specs.Readings.{ReadsParts}
 use Rattle.ds_image.specs.Sound.{StandsFor}
 use Rattle.ds_plan_laws_new.specs.Entering.{subs_in}
 use Rattle.ds_image.specs.Guards.{GuardedBy}

@@ -3,9 +3,9 @@ use Rattle.std.proofs.Common.{◌≡◌, ℕ, ◌<◌, Bool, false, List, length
 use Rattle.std.proofs.lemmas.Bool.{cases_eq, false≢true}
 use Rattle.ds_base.specs.declared.names.NodeKind.TheVariants as kinds
 use Rattle.ds_fd.specs.declared.body.Body.{Body}
-use Rattle.ds_image.specs.Objects.{subs_by, subs_of}
-use Rattle.ds_image.specs.Owns.{Owns, IsAt, bit}
-use Rattle.ds_image.specs.Parts.{Parts, part_at}
+use Rattle.ds_image_parts.specs.Objects.{subs_by, subs_of}
+use Rattle.ds_image_tables.specs.Owns.{Owns, IsAt, bit}
+use Rattle.ds_image_parts.specs.Parts.{Parts, part_at}
 use Rattle.ds_image.specs.Sound.{sub_lists}
 use Rattle.ds_image.proofs.Spelling.SoundParts.{list-is}
 use Rattle.ds_plan_laws_new.specs.Entering.{subs_in}

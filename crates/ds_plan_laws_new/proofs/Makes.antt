@@ -20,9 +20,9 @@ use Rattle.ds_tree.specs.Steps.{is_full, rooms_with_one_more, Makes}
 use Rattle.ds_tree.specs.Trees.{empty_node}
 use Rattle.ds_tree.specs.WellFormed.{IsTree}
 use Rattle.ds_tree.specs.declared.calls.TreeReply.TheVariants.{Made}
-use Rattle.ds_image.specs.Objects.{entries_of, is_used, tree_of}
-use Rattle.ds_image.specs.Parts.{Parts, bits_in}
-use Rattle.ds_image.specs.Readings.{ReadsParts}
+use Rattle.ds_image_parts.specs.Objects.{entries_of, is_used, tree_of}
+use Rattle.ds_image_parts.specs.Parts.{Parts, bits_in}
+use Rattle.ds_image_parts.specs.Readings.{ReadsParts}
 use Rattle.ds_image.specs.Sound.{IsSound}
 use Rattle.ds_image.proofs.FileTrees.DirNodes.{dir-rules}
 use Rattle.ds_plan_laws_new.specs.Entering.{subs_in, make_call}

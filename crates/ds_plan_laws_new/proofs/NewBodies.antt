@@ -6,8 +6,8 @@ use Rattle.ds_base.specs.declared.names.NodeKind.TheVariants as kinds
 use Rattle.ds_fd.specs.declared.body.Body.{Body}
 use Rattle.ds_tree.specs.Nodes.{Dir, File}
 use Rattle.ds_tree.specs.Trees.{empty_node}
-use Rattle.ds_image.specs.Objects.{subs_by, ptrs_by, blocks_by, tail_by, node_by, subs_of, blocks_of, tail_of, addresses_in, used_rooms, object_of}
-use Rattle.ds_image.specs.Parts.{Parts, part_at}
+use Rattle.ds_image_parts.specs.Objects.{subs_by, ptrs_by, blocks_by, tail_by, node_by, subs_of, blocks_of, tail_of, addresses_in, used_rooms, object_of}
+use Rattle.ds_image_parts.specs.Parts.{Parts, part_at}
 use Rattle.ds_plan_laws_new.proofs.Names.{by_name}
 
 -- what such a body lists

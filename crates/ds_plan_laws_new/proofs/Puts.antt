@@ -4,7 +4,7 @@ use Rattle.std.specs.List.{filter_map}
 use Rattle.std.specs.List.Sorted.{IsPermutation}
 use Rattle.std.proofs.lemmas.List.{append-nil, map-append}
 use Rattle.std.proofs.lemmas.List.Sorted.{IsPermutation-middle}
-use Rattle.ds_image.proofs.Spelling.Places.{at-append, at-append_left, at-append_right}
+use Rattle.ds_image_tables.proofs.Spelling.Places.{at-append, at-append_left, at-append_right}
 use Rattle.ds_plan_laws_new.specs.Puts.{IsPut}
 
 pub put-last : {X : Type 0} (x : X) (xs : List X) → IsPut x xs (xs ++ x ∷ [])

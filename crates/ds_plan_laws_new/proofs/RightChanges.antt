@@ -10,8 +10,8 @@ use Rattle.ds_tree.specs.Steps.{IsNextLife, has_change, is_refusal}
 use Rattle.ds_tree.specs.declared.calls.CallOf.{CallOf}
 use Rattle.ds_tree.specs.declared.calls.TreeReply.{TreeReply}
 use Rattle.ds_image.specs.Asking.{IsRightChange, targets_of}
-use Rattle.ds_image.specs.Logical.{laid_over}
-use Rattle.ds_image.specs.Pending.{Pair}
+use Rattle.ds_image_parts.specs.Logical.{laid_over}
+use Rattle.ds_image_parts.specs.Pending.{Pair}
 use Rattle.ds_image.specs.SeenValues.{SeenValue, HoldsLock}
 use Rattle.ds_image.specs.Guards.{GuardedBy}
 use Rattle.ds_plan_laws_new.specs.Making.{Leaves}

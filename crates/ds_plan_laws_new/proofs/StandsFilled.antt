@@ -19,12 +19,12 @@ use Rattle.ds_tree.specs.Nodes.{FileTree}
 use Rattle.ds_tree.specs.Steps.{is_full}
 use Rattle.ds_tree.specs.WellFormed.{IsTree}
 use Rattle.ds_tree.specs.declared.calls.TreeReply.TheVariants.{Made}
-use Rattle.ds_image.specs.Logical.{laid_over}
-use Rattle.ds_image.specs.Objects.{entries_of}
-use Rattle.ds_image.specs.Parts.{Parts}
-use Rattle.ds_image.specs.Readings.{ReadsParts}
+use Rattle.ds_image_parts.specs.Logical.{laid_over}
+use Rattle.ds_image_parts.specs.Objects.{entries_of}
+use Rattle.ds_image_parts.specs.Parts.{Parts}
+use Rattle.ds_image_parts.specs.Readings.{ReadsParts}
 use Rattle.ds_image.specs.Sound.{StandsFor}
-use Rattle.ds_image.proofs.Journaling.LaidOver.{whole-laid_over}
+use Rattle.ds_image_parts.proofs.Journaling.LaidOver.{whole-laid_over}
 use Rattle.ds_image.proofs.Spelling.Sizes.{body_is}
 use Rattle.ds_plan_laws_new.specs.Entering.{subs_in, FillsRoom, make_call}
 use Rattle.ds_plan_laws_new.specs.Making.{ReadyToMake, Leaves}

@@ -22,14 +22,14 @@ use Rattle.ds_tree.specs.Nodes.{FileTree}
 use Rattle.ds_tree.specs.Steps.{is_full}
 use Rattle.ds_tree.specs.WellFormed.{IsTree}
 use Rattle.ds_tree.specs.declared.calls.TreeReply.TheVariants.{Made}
-use Rattle.ds_image.specs.Logical.{laid_over}
-use Rattle.ds_image.specs.Objects.{subs_by, subs_of, entries_of, used_rooms, tree_of}
-use Rattle.ds_image.specs.Parts.{Parts, bits_in}
-use Rattle.ds_image.specs.Pending.{Pair}
-use Rattle.ds_image.specs.Readings.{ReadsParts}
+use Rattle.ds_image_parts.specs.Logical.{laid_over}
+use Rattle.ds_image_parts.specs.Objects.{subs_by, subs_of, entries_of, used_rooms, tree_of}
+use Rattle.ds_image_parts.specs.Parts.{Parts, bits_in}
+use Rattle.ds_image_parts.specs.Pending.{Pair}
+use Rattle.ds_image_parts.specs.Readings.{ReadsParts}
 use Rattle.ds_image.specs.Sound.{StandsFor}
 use Rattle.ds_image.specs.SoundObjects.{AreNamesApart}
-use Rattle.ds_image.proofs.Journaling.LaidOver.{whole-laid_over}
+use Rattle.ds_image_parts.proofs.Journaling.LaidOver.{whole-laid_over}
 use Rattle.ds_image.proofs.Spelling.SoundParts.{objects-of}
 use Rattle.ds_plan_laws_new.specs.Entering.{subs_in, make_call}
 use Rattle.ds_plan_laws_new.specs.Making.{ReadyToMake, ReadyToGrow, Leaves}

@@ -5,7 +5,7 @@ use Rattle.ds_bitmap.specs.Bits.{Bitmap}
 use Rattle.ds_dir.specs.declared.sub_block.Entry.{Entry}
 use Rattle.ds_fd.specs.Body.{IsBody}
 use Rattle.ds_fd.specs.declared.body.Body.{Body}
-use Rattle.ds_image.specs.Parts.{Parts, part_at, maps_of}
+use Rattle.ds_image_parts.specs.Parts.{Parts, part_at, maps_of}
 
 -- the bitmap of a cluster of the kind, in which the bit of one item changes to this
 pub record SetsBit (p : Parts) (kind : Kind) (cluster item : ℕ) (to : Bool) (after : Bitmap) : Type 0 where

@@ -3,7 +3,7 @@ use Rattle.std.specs.Prelude.{List, Option}
 use Rattle.ds_base.specs.declared.geometry.Kind.{Kind}
 use Rattle.ds_base.specs.declared.geometry.Kind.TheVariants.{Fd, Sb, Pb, Fb}
 use Rattle.ds_bitmap.specs.Bits.{Bitmap}
-use Rattle.ds_image.specs.Parts.{Parts}
+use Rattle.ds_image_parts.specs.Parts.{Parts}
 
 -- the parts with these bitmaps of a kind's clusters
 abbrev pub with_maps : Parts → Kind → List (Option Bitmap) → Parts

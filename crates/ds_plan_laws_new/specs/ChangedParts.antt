@@ -3,7 +3,7 @@ use Rattle.std.specs.Prelude.{ℕ, slice_set, Some}
 use Rattle.ds_bitmap.specs.Bits.{Bitmap}
 use Rattle.ds_dir.specs.declared.sub_block.SubBlock.{SubBlock}
 use Rattle.ds_fd.specs.declared.body.Body.{Body}
-use Rattle.ds_image.specs.Parts.{Parts}
+use Rattle.ds_image_parts.specs.Parts.{Parts}
 
 -- the parts with a bitmap of descriptors, a body and a sub-block in the place of others
 abbrev pub filled : Parts → ℕ → ℕ → ℕ → Bitmap → Body → SubBlock → Parts

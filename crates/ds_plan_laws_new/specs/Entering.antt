@@ -10,8 +10,8 @@ use Rattle.ds_fd.specs.Body.{IsBody}
 use Rattle.ds_fd.specs.declared.body.Body.{Body}
 use Rattle.ds_tree.specs.declared.calls.CallOf.{CallOf}
 use Rattle.ds_tree.specs.declared.calls.CallOf.TheVariants.{Mkdir, Create}
-use Rattle.ds_image.specs.Objects.{subs_by, used_rooms, entries_of}
-use Rattle.ds_image.specs.Parts.{Parts, part_at}
+use Rattle.ds_image_parts.specs.Objects.{subs_by, used_rooms, entries_of}
+use Rattle.ds_image_parts.specs.Parts.{Parts, part_at}
 
 -- the sub-blocks of a directory
 abbrev pub subs_in : Body → List ℕ

@@ -5,7 +5,7 @@ use Rattle.ds_base.specs.declared.geometry.Kind.TheVariants.{Fd, Sb}
 use Rattle.ds_base.specs.declared.sectors.Sector.{Sector}
 use Rattle.ds_layout.specs.Places.{place_sector}
 use Rattle.ds_layout.specs.declared.places.Place.TheVariants as places
-use Rattle.ds_image.specs.Pending.{Pair}
+use Rattle.ds_image_parts.specs.Pending.{Pair}
 
 -- an object made for a free room of a directory: the sectors in their order
 abbrev pub filled_pairs : Geom → ℕ → ℕ → ℕ → Sector → Sector → Sector → List Pair

@@ -11,7 +11,7 @@ use Rattle.ds_base.specs.declared.names.NodeKind.TheVariants as kinds
 use Rattle.ds_bytes.specs.Fields.{zeros}
 use Rattle.ds_fd.specs.Body.{IsBody, least_birth, links_of, most_count, addresses_used}
 use Rattle.ds_fd.specs.declared.body.Body.{Body}
-use Rattle.ds_image.specs.Parts.{Parts, part_at}
+use Rattle.ds_image_parts.specs.Parts.{Parts, part_at}
 use Rattle.ds_tree.specs.Counts.{pointer_blocks}
 use Rattle.ds_plan_laws_size.specs.Pages.{ptrs_in, IsPage}
 use Rattle.ds_plan_laws_size.specs.Planned.{HasSize}

@@ -2,9 +2,9 @@
 use Rattle.std.proofs.Common.{◌≡◌, ℕ, Some, refl, ap, ◌∙◌}
 use Rattle.ds_base.specs.declared.names.NodeKind.TheVariants as kinds
 use Rattle.ds_fd.specs.declared.body.Body.{Body}
-use Rattle.ds_image.specs.Objects.{ptrs_by, blocks_by, subs_by, tail_by, ptrs_of, blocks_of, subs_of, tail_of}
-use Rattle.ds_image.specs.Owns.{list_of}
-use Rattle.ds_image.specs.Parts.{Parts, part_at}
+use Rattle.ds_image_parts.specs.Objects.{ptrs_by, blocks_by, subs_by, tail_by, ptrs_of, blocks_of, subs_of, tail_of}
+use Rattle.ds_image_tables.specs.Owns.{list_of}
+use Rattle.ds_image_parts.specs.Parts.{Parts, part_at}
 use Rattle.ds_image.specs.Sound.{ptr_lists, block_lists}
 use Rattle.ds_image.proofs.Spelling.SoundParts.{list-is}
 use Rattle.ds_plan_laws_size.specs.Pages.{ptrs_in, blocks_in}

@@ -9,13 +9,13 @@ use Rattle.ds_base.specs.Geometry.{clusters_of, per_cluster, items_of}
 use Rattle.ds_base.specs.declared.geometry.Geom.{Geom}
 use Rattle.ds_base.specs.declared.geometry.Kind.{Kind}
 use Rattle.ds_bitmap.specs.Bits.{Bitmap, IsBits}
-use Rattle.ds_image.specs.Looks.{Look}
-use Rattle.ds_image.specs.Owned.{CanMark}
-use Rattle.ds_image.specs.Owns.{bit}
-use Rattle.ds_image.specs.Parts.{Parts, part_at, AllSpelled, maps_of, bits_in}
-use Rattle.ds_image.specs.Readings.{ReadsParts, SpellsBits, IsReading}
+use Rattle.ds_image_parts.specs.Looks.{Look}
+use Rattle.ds_image_tables.specs.Owned.{CanMark}
+use Rattle.ds_image_tables.specs.Owns.{bit}
+use Rattle.ds_image_parts.specs.Parts.{Parts, part_at, AllSpelled, maps_of, bits_in}
+use Rattle.ds_image_parts.specs.Readings.{ReadsParts, SpellsBits, IsReading}
 use Rattle.ds_image.proofs.Ownership.Listed.{bits_length}
-use Rattle.ds_image.proofs.Spelling.Places.{at-from_Contains}
+use Rattle.ds_image_tables.proofs.Spelling.Places.{at-from_Contains}
 use Rattle.ds_image.proofs.Spelling.Sizes.{part_within}
 use Rattle.ds_image.proofs.Bits.{bits-get}
 use Rattle.ds_plan_laws_size.specs.Clusters.{MarksCluster, MarksClusters}

@@ -9,8 +9,8 @@ use Rattle.ds_base.specs.declared.names.NodeKind.TheVariants as kinds
 use Rattle.ds_fd.specs.Body.{IsBody, most_count}
 use Rattle.ds_fd.specs.declared.body.Body.{Body}
 use Rattle.ds_tree.specs.Counts.{pointer_blocks}
-use Rattle.ds_image.specs.Objects.{addresses_in, pointed_by, tail_by}
-use Rattle.ds_image.specs.Parts.{Parts, part_at}
+use Rattle.ds_image_parts.specs.Objects.{addresses_in, pointed_by, tail_by}
+use Rattle.ds_image_parts.specs.Parts.{Parts, part_at}
 use Rattle.ds_image.specs.Sound.{AreZero}
 use Rattle.ds_image.proofs.Spelling.Sizes.{length-flat_map_each, many_pointers}
 use Rattle.ds_image.proofs.Bits.{flat-get}

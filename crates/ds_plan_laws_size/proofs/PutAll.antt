@@ -1,7 +1,7 @@
 -- Parts that are put in the place of others, each by its number.
 use Rattle.std.proofs.Common.{◌≡◌, ◌≢◌, ℕ, zero, suc, ◌<◌, ◌⊎◌, inl, inr, List, [], ◌∷◌, length, slice_get, slice_set, Option, Some, None, refl, sym, ap, ◌∙◌, length-set, get_or-set_same, get_or-set_other, arith}
 use Rattle.std.proofs.lemmas.Bool.{cases_eq}
-use Rattle.ds_image.specs.Parts.{part_at, AllSpelled}
+use Rattle.ds_image_parts.specs.Parts.{part_at, AllSpelled}
 use Rattle.ds_image.proofs.Bits.{all-put}
 use Rattle.ds_plan_laws_size.specs.Written.{AreOnce, put_all}
 

@@ -17,8 +17,8 @@ use Rattle.ds_tree.specs.Steps.{refusal, refuses_resize, in_file, Succeeds, Does
 use Rattle.ds_tree.specs.declared.calls.CallOf.TheVariants.{Resize}
 use Rattle.ds_tree.specs.declared.calls.TreeReply.{TreeReply}
 use Rattle.ds_tree.specs.declared.calls.TreeReply.TheVariants.{Sized, NoObject, NotFile, TooBig, TooMuch, NoSpace}
-use Rattle.ds_image.specs.Objects.{entries_of, object_of, tree_of}
-use Rattle.ds_image.specs.Parts.{Parts, part_at, bits_in}
+use Rattle.ds_image_parts.specs.Objects.{entries_of, object_of, tree_of}
+use Rattle.ds_image_parts.specs.Parts.{Parts, part_at, bits_in}
 use Rattle.ds_image.specs.Sound.{StandsFor}
 use Rattle.ds_image.proofs.Spelling.Sizes.{body_is}
 use Rattle.ds_image.proofs.FileTrees.TreeParts.{object-is}

@@ -4,15 +4,15 @@ use Rattle.std.specs.Prelude.{Contains, not}
 use Rattle.std.proofs.lemmas.Bool.{cases_eq, cases_Bool, false≢true}
 use Rattle.std.proofs.lemmas.List.Sums.{sum_by-set}
 use Rattle.std.proofs.lemmas.Option.{slice_get_within}
-use Rattle.ds_image.specs.Owned.{CanMark, AddsMarks, with_marks}
-use Rattle.ds_image.specs.Owns.{Owns, list_of, bit}
-use Rattle.ds_image.proofs.Ownership.Marking.{clears-many, adds-one, can-back}
-use Rattle.ds_image.proofs.Ownership.Owning.{owns-adds, owns-given_up}
-use Rattle.ds_image.proofs.Spelling.Places.{Contains-from_at, at-from_Contains, bit-at, bit-from_at, marked-within}
+use Rattle.ds_image_tables.specs.Owned.{CanMark, AddsMarks, with_marks}
+use Rattle.ds_image_tables.specs.Owns.{Owns, list_of, bit}
+use Rattle.ds_image_tables.proofs.Ownership.Marking.{clears-many, adds-one, can-back}
+use Rattle.ds_image_tables.proofs.Ownership.Owning.{owns-adds, owns-given_up}
+use Rattle.ds_image_tables.proofs.Spelling.Places.{Contains-from_at, at-from_Contains, bit-at, bit-from_at, marked-within}
 use Rattle.ds_image.proofs.Bits.{clear_count}
 use Rattle.ds_plan_laws_size.specs.Remarks.{Remarks}
-use Rattle.ds_image.proofs.Ownership.Owning.{AddsItems}
-use Rattle.ds_image.proofs.Ownership.Marking.{ClearsMarks}
+use Rattle.ds_image_tables.proofs.Ownership.Owning.{AddsItems}
+use Rattle.ds_image_tables.proofs.Ownership.Marking.{ClearsMarks}
 
 -- Whether an item is in a list
 

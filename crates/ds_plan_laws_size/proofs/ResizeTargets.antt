@@ -10,7 +10,7 @@ use Rattle.ds_bitmap.specs.Bits.{Bitmap}
 use Rattle.ds_fd.specs.declared.body.Body.{Body}
 use Rattle.ds_image.specs.Asking.{AreTargets, targets_of}
 use Rattle.ds_layout.specs.Metadata.{IsMetadata}
-use Rattle.ds_image.specs.Pending.{Pair}
+use Rattle.ds_image_parts.specs.Pending.{Pair}
 use Rattle.ds_layout.specs.Places.{place_sector, cluster_at, descriptors_at}
 use Rattle.ds_layout.specs.declared.places.Place.TheVariants as places
 use Rattle.ds_ptr.specs.declared.ptr_block.PtrBlock.{PtrBlock}

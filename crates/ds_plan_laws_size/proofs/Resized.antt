@@ -8,13 +8,13 @@ use Rattle.ds_dir.specs.declared.sub_block.Entry.{Entry}
 use Rattle.ds_fd.specs.declared.body.Body.{Body}
 use Rattle.ds_ptr.specs.declared.ptr_block.PtrBlock.{PtrBlock}
 use Rattle.ds_tree.specs.Counts.{pointer_blocks}
-use Rattle.ds_image.specs.Objects.{addresses_in, subs_by, ptrs_by, tail_by, subs_of, ptrs_of, blocks_of, used_rooms, is_used}
-use Rattle.ds_image.specs.Owns.{Owns, list_of}
-use Rattle.ds_image.specs.Parts.{Parts, part_at, AllSpelled, bits_in}
+use Rattle.ds_image_parts.specs.Objects.{addresses_in, subs_by, ptrs_by, tail_by, subs_of, ptrs_of, blocks_of, used_rooms, is_used}
+use Rattle.ds_image_tables.specs.Owns.{Owns, list_of}
+use Rattle.ds_image_parts.specs.Parts.{Parts, part_at, AllSpelled, bits_in}
 use Rattle.ds_image.specs.Sound.{IsSound, IsNamedRight, AreZero, sub_lists, ptr_lists, block_lists}
 use Rattle.ds_image.specs.SoundObjects.{AreNamesApart, IsSoundObject, IsMarked}
 use Rattle.ds_image.proofs.FileTrees.NamesApart.{apart-none}
-use Rattle.ds_image.proofs.Ownership.Owning.{owns-alike}
+use Rattle.ds_image_tables.proofs.Ownership.Owning.{owns-alike}
 use Rattle.ds_image.proofs.Spelling.Sizes.{part_within}
 use Rattle.ds_image.proofs.Spelling.SoundParts.{all-at, all-from_at, list-is, sound-from, objects-of}
 use Rattle.ds_image.proofs.Bits.{all-put}

@@ -6,8 +6,8 @@ use Rattle.ds_base.specs.declared.names.NodeKind.{NodeKind}
 use Rattle.ds_base.specs.declared.names.NodeKind.TheVariants as kinds
 use Rattle.ds_fd.specs.declared.body.Body.{Body}
 use Rattle.ds_tree.specs.Nodes.{Dir, File, Object, FileTree, unborn, object_at, birth_at, with_node}
-use Rattle.ds_image.specs.Objects.{subs_by, subs_of, blocks_by, blocks_of, node_by, object_of, tree_of, used_rooms}
-use Rattle.ds_image.specs.Parts.{Parts, part_at}
+use Rattle.ds_image_parts.specs.Objects.{subs_by, subs_of, blocks_by, blocks_of, node_by, object_of, tree_of, used_rooms}
+use Rattle.ds_image_parts.specs.Parts.{Parts, part_at}
 use Rattle.ds_image.proofs.FileTrees.TreeParts.{object-is, objects-are}
 use Rattle.ds_plan_laws_new.proofs.Names.{by_name}
 use Rattle.ds_plan_laws_size.specs.Pages.{blocks_in}

@@ -21,13 +21,13 @@ use Rattle.ds_tree.specs.Steps.{refuses_resize, in_file, Resizes, Succeeds, Does
 use Rattle.ds_tree.specs.WellFormed.{IsTree}
 use Rattle.ds_tree.specs.declared.calls.CallOf.TheVariants.{Resize}
 use Rattle.ds_tree.specs.declared.calls.TreeReply.TheVariants.{Sized}
-use Rattle.ds_image.specs.Objects.{blocks_of, tree_of}
-use Rattle.ds_image.specs.Owns.{IsAt}
-use Rattle.ds_image.specs.Parts.{Parts, bits_in}
-use Rattle.ds_image.specs.Readings.{ReadsParts}
+use Rattle.ds_image_parts.specs.Objects.{blocks_of, tree_of}
+use Rattle.ds_image_tables.specs.Owns.{IsAt}
+use Rattle.ds_image_parts.specs.Parts.{Parts, bits_in}
+use Rattle.ds_image_parts.specs.Readings.{ReadsParts}
 use Rattle.ds_image.specs.Sound.{IsSound, block_lists}
 use Rattle.ds_image.proofs.Ownership.Listed.{bits_length}
-use Rattle.ds_image.proofs.Spelling.Places.{at-append, at-from_Contains, bit-from_at}
+use Rattle.ds_image_tables.proofs.Spelling.Places.{at-append, at-from_Contains, bit-from_at}
 use Rattle.ds_image.proofs.Spelling.Sizes.{body_is}
 use Rattle.ds_image.proofs.Spelling.SoundParts.{all-from_at, list-is}
 use Rattle.ds_image.proofs.FileTrees.TreeParts.{blocks-are}

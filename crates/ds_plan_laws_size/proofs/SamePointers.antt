@@ -4,8 +4,8 @@ use Rattle.std.specs.List.{flat_map}
 use Rattle.ds_base.specs.declared.names.NodeKind.{NodeKind}
 use Rattle.ds_base.specs.declared.names.NodeKind.TheVariants as kinds
 use Rattle.ds_fd.specs.declared.body.Body.{Body}
-use Rattle.ds_image.specs.Objects.{addresses_in, ptrs_by, pointed_by, blocks_by, ptrs_of, blocks_of, tail_of}
-use Rattle.ds_image.specs.Parts.{Parts, part_at}
+use Rattle.ds_image_parts.specs.Objects.{addresses_in, ptrs_by, pointed_by, blocks_by, ptrs_of, blocks_of, tail_of}
+use Rattle.ds_image_parts.specs.Parts.{Parts, part_at}
 
 flat-same : (f f' : ℕ → List ℕ) (ns : List ℕ) → ((i n : ℕ) → slice_get ns i ≡ Some n → f' n ≡ f n) → flat_map f' ns ≡ flat_map f ns
 flat-same f f' [] same = refl

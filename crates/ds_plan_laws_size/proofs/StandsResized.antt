@@ -8,17 +8,17 @@ use Rattle.ds_base.specs.declared.names.Key.{Key}
 use Rattle.ds_base.specs.declared.sectors.Sector.{Sector}
 use Rattle.ds_bitmap.specs.Bits.{Bitmap}
 use Rattle.ds_fd.specs.declared.body.Body.{Body}
-use Rattle.ds_image.specs.Logical.{laid_over}
-use Rattle.ds_image.specs.Looks.{Look}
-use Rattle.ds_image.specs.Parts.{Parts, AllSpelled, maps_of}
-use Rattle.ds_image.specs.Pending.{Pair}
-use Rattle.ds_image.specs.Readings.{ReadsParts}
+use Rattle.ds_image_parts.specs.Logical.{laid_over}
+use Rattle.ds_image_parts.specs.Looks.{Look}
+use Rattle.ds_image_parts.specs.Parts.{Parts, AllSpelled, maps_of}
+use Rattle.ds_image_parts.specs.Pending.{Pair}
+use Rattle.ds_image_parts.specs.Readings.{ReadsParts}
 use Rattle.ds_image.specs.Sound.{StandsFor}
-use Rattle.ds_image.proofs.Journaling.LaidOver.{whole-laid_over}
-use Rattle.ds_image.proofs.Spelling.Places.{at-append}
+use Rattle.ds_image_parts.proofs.Journaling.LaidOver.{whole-laid_over}
+use Rattle.ds_image_tables.proofs.Spelling.Places.{at-append}
 use Rattle.ds_image.proofs.Spelling.SoundParts.{each_kind}
 use Rattle.ds_ptr.specs.declared.ptr_block.PtrBlock.{PtrBlock}
-use Rattle.ds_image.specs.Objects.{tree_of}
+use Rattle.ds_image_parts.specs.Objects.{tree_of}
 use Rattle.ds_tree.specs.Nodes.{FileTree, Object, node_at}
 use Rattle.ds_tree.specs.Nodes as nodes
 use Rattle.ds_tree.specs.Steps.{has_change}

@@ -3,10 +3,10 @@ use Rattle.std.proofs.Common.{◌≡◌, suc, List, [], ◌∷◌, ◌++◌, len
 use Rattle.ds_base.specs.Geometry.{IsGeom}
 use Rattle.ds_base.specs.declared.geometry.Geom.{Geom}
 use Rattle.ds_base.specs.declared.sectors.Sector.{Sector}
-use Rattle.ds_image.specs.Logical.{laid_over}
-use Rattle.ds_image.specs.Parts.{Parts}
-use Rattle.ds_image.specs.Pending.{Pair}
-use Rattle.ds_image.specs.Readings.{ReadsParts}
+use Rattle.ds_image_parts.specs.Logical.{laid_over}
+use Rattle.ds_image_parts.specs.Parts.{Parts}
+use Rattle.ds_image_parts.specs.Pending.{Pair}
+use Rattle.ds_image_parts.specs.Readings.{ReadsParts}
 use Rattle.ds_layout.specs.Places.{place_sector}
 use Rattle.ds_plan_laws_new.proofs.Frames.{reads-body, reads-map, reads-sub, reads-ptr}
 use Rattle.ds_plan_laws_size.specs.Written.{Written, MapPart, BodyPart, SubPart, PtrPart, place_of, bytes_of, with_part, with_parts, ArePairsOf, CanWrite, CanWriteAll}

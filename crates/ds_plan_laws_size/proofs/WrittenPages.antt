@@ -9,15 +9,15 @@ use Rattle.ds_base.specs.declared.geometry.Kind.TheVariants.{Pb}
 use Rattle.ds_fd.specs.declared.body.Body.{Body}
 use Rattle.ds_ptr.specs.declared.ptr_block.PtrBlock.{PtrBlock}
 use Rattle.ds_tree.specs.Counts.{pointer_blocks}
-use Rattle.ds_image.specs.Looks.{Look}
-use Rattle.ds_image.specs.Objects.{addresses_in}
-use Rattle.ds_image.specs.Owned.{CanMark}
-use Rattle.ds_image.specs.Owns.{IsAt}
-use Rattle.ds_image.specs.Parts.{Parts, part_at, bits_in}
-use Rattle.ds_image.specs.Readings.{ReadsParts}
+use Rattle.ds_image_parts.specs.Looks.{Look}
+use Rattle.ds_image_parts.specs.Objects.{addresses_in}
+use Rattle.ds_image_tables.specs.Owned.{CanMark}
+use Rattle.ds_image_tables.specs.Owns.{IsAt}
+use Rattle.ds_image_parts.specs.Parts.{Parts, part_at, bits_in}
+use Rattle.ds_image_parts.specs.Readings.{ReadsParts}
 use Rattle.ds_image.specs.Sound.{IsSound, ptr_lists}
 use Rattle.ds_image.proofs.Ownership.Listed.{bits_length, ptr_listed_within}
-use Rattle.ds_image.proofs.Spelling.Places.{at-append, at-append_left, bit-from_at}
+use Rattle.ds_image_tables.proofs.Spelling.Places.{at-append, at-append_left, bit-from_at}
 use Rattle.ds_image.proofs.Spelling.Sizes.{body_is}
 use Rattle.ds_plan_laws_size.specs.Pages.{ptrs_in, blocks_in, IsPage, SpellsBlocks}
 use Rattle.ds_plan_laws_size.specs.Pointers.{WritesPages}

@@ -4,8 +4,8 @@ use Rattle.ds_base.specs.Geometry.{per_cluster}
 use Rattle.ds_base.specs.declared.geometry.Geom.{Geom}
 use Rattle.ds_base.specs.declared.geometry.Kind.{Kind}
 use Rattle.ds_bitmap.specs.Bits.{Bitmap}
-use Rattle.ds_image.specs.Owns.{bit}
-use Rattle.ds_image.specs.Parts.{Parts, part_at, maps_of}
+use Rattle.ds_image_tables.specs.Owns.{bit}
+use Rattle.ds_image_parts.specs.Parts.{Parts, part_at, maps_of}
 use Rattle.ds_plan_laws_size.specs.Written.{AreOnce}
 
 -- the bitmap of one cluster of the kind: of its items those given up are clear, those taken are set, and all others are as they were

@@ -2,8 +2,8 @@
 use Rattle.std.specs.Prelude.{◌≡◌, ℕ, ◌+◌, ◌*◌, ◌<◌, ◌≤◌, List, length, take, slice_get, slice_index, Some}
 use Rattle.ds_base.specs.declared.names.NodeKind.TheVariants as kinds
 use Rattle.ds_fd.specs.declared.body.Body.{Body}
-use Rattle.ds_image.specs.Objects.{addresses_in, ptrs_by, blocks_by}
-use Rattle.ds_image.specs.Parts.{Parts, part_at}
+use Rattle.ds_image_parts.specs.Objects.{addresses_in, ptrs_by, blocks_by}
+use Rattle.ds_image_parts.specs.Parts.{Parts, part_at}
 
 -- the pointer blocks and the blocks of a file with this body
 abbrev pub ptrs_in : Body → List ℕ

@@ -7,7 +7,7 @@ use Rattle.ds_bitmap.specs.Bits.{Bitmap}
 use Rattle.ds_bytes.specs.Fields.{zeros, AllBelow}
 use Rattle.ds_fd.specs.Body.{addresses_used}
 use Rattle.ds_fd.specs.declared.body.Body.{Body}
-use Rattle.ds_image.specs.Parts.{Parts, part_at}
+use Rattle.ds_image_parts.specs.Parts.{Parts, part_at}
 use Rattle.ds_ptr.specs.declared.ptr_block.PtrBlock.{PtrBlock}
 use Rattle.ds_tree.specs.Counts.{pointer_blocks}
 use Rattle.ds_plan_laws_size.specs.Pages.{ptrs_in, blocks_in}

@@ -4,8 +4,8 @@ use Rattle.ds_base.specs.declared.geometry.Geom.{Geom}
 use Rattle.ds_base.specs.declared.geometry.Kind.TheVariants.{Pb, Fb}
 use Rattle.ds_bitmap.specs.Bits.{Bitmap}
 use Rattle.ds_fd.specs.declared.body.Body.{Body}
-use Rattle.ds_image.specs.Owned.{CanMark}
-use Rattle.ds_image.specs.Parts.{Parts, bits_in}
+use Rattle.ds_image_tables.specs.Owned.{CanMark}
+use Rattle.ds_image_parts.specs.Parts.{Parts, bits_in}
 use Rattle.ds_ptr.specs.declared.ptr_block.PtrBlock.{PtrBlock}
 use Rattle.ds_plan_laws_size.specs.Clusters.{MarksClusters}
 use Rattle.ds_plan_laws_size.specs.Pages.{ptrs_in, blocks_in}

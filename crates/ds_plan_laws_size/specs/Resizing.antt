@@ -5,9 +5,9 @@ use Rattle.ds_base.specs.declared.names.NodeKind.TheVariants as kinds
 use Rattle.ds_fd.specs.Body.{IsBody}
 use Rattle.ds_fd.specs.declared.body.Body.{Body}
 use Rattle.ds_tree.specs.Counts.{pointer_blocks}
-use Rattle.ds_image.specs.Owned.{CanMark}
-use Rattle.ds_image.specs.Owns.{IsAt}
-use Rattle.ds_image.specs.Parts.{Parts, part_at, AllSpelled, maps_of, bits_in}
+use Rattle.ds_image_tables.specs.Owned.{CanMark}
+use Rattle.ds_image_tables.specs.Owns.{IsAt}
+use Rattle.ds_image_parts.specs.Parts.{Parts, part_at, AllSpelled, maps_of, bits_in}
 use Rattle.ds_image.specs.Sound.{ptr_lists}
 use Rattle.ds_plan_laws_size.specs.Pages.{ptrs_in, blocks_in, SpellsBlocks}
 use Rattle.ds_plan_laws_size.specs.Remarks.{Remarks}

@@ -5,8 +5,8 @@ use Rattle.ds_base.specs.Geometry.{per_cluster}
 use Rattle.ds_base.specs.declared.geometry.Geom.{Geom}
 use Rattle.ds_base.specs.declared.geometry.Kind.{Kind}
 use Rattle.ds_bitmap.specs.Bits.{Bitmap}
-use Rattle.ds_image.specs.Owned.{CanMark, with_marks}
-use Rattle.ds_image.specs.Parts.{Parts, part_at, maps_of}
+use Rattle.ds_image_tables.specs.Owned.{CanMark, with_marks}
+use Rattle.ds_image_parts.specs.Parts.{Parts, part_at, maps_of}
 use Rattle.ds_plan_laws_size.specs.Written.{AreOnce}
 
 -- the bitmap of a cluster with other bits for some of its items

@@ -11,8 +11,8 @@ use Rattle.ds_dir.specs.SubBlock.{IsSubBlock, sub_bytes}
 use Rattle.ds_dir.specs.declared.sub_block.SubBlock.{SubBlock}
 use Rattle.ds_fd.specs.Body.{IsBody, body_bytes}
 use Rattle.ds_fd.specs.declared.body.Body.{Body}
-use Rattle.ds_image.specs.Parts.{Parts, maps_of}
-use Rattle.ds_image.specs.Pending.{Pair}
+use Rattle.ds_image_parts.specs.Parts.{Parts, maps_of}
+use Rattle.ds_image_parts.specs.Pending.{Pair}
 use Rattle.ds_layout.specs.Places.{place_sector}
 use Rattle.ds_layout.specs.declared.places.Place.{Place}
 use Rattle.ds_layout.specs.declared.places.Place.TheVariants as places

@@ -14,9 +14,9 @@ use Rattle.ds_base.specs.declared.sectors.Sector.{Sector}
 use Rattle.ds_image.proofs.Bits.{bits-at}
 use Rattle.ds_fd.specs.declared.body.Body.{Body}
 use Rattle.ds_image.specs.Asking.{Agrees, makes_object}
-use Rattle.ds_image.specs.Objects.{is_used}
-use Rattle.ds_image.specs.Parts.{Parts, part_at, used_bits}
-use Rattle.ds_image.specs.Readings.{ReadsParts}
+use Rattle.ds_image_parts.specs.Objects.{is_used}
+use Rattle.ds_image_parts.specs.Parts.{Parts, part_at, used_bits}
+use Rattle.ds_image_parts.specs.Readings.{ReadsParts}
 use Rattle.ds_image.specs.SeenValues.{SeenValue, has_lock, look_of}
 use Rattle.ds_image.specs.Sound.{StandsFor}
 use Rattle.ds_image.specs.declared.asks.Ask.{Ask}

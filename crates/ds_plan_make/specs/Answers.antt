@@ -6,7 +6,7 @@ use Rattle.ds_base.specs.declared.names.Key.{Key}
 use Rattle.ds_base.specs.declared.names.NodeKind.{NodeKind}
 use Rattle.ds_plan_laws_new.specs.Entering.{make_call}
 use Rattle.ds_fd.specs.declared.body.Body.{Body}
-use Rattle.ds_image.specs.Parts.{Parts}
+use Rattle.ds_image_parts.specs.Parts.{Parts}
 use Rattle.ds_image.specs.Planning.{Answers}
 use Rattle.ds_image.specs.SeenValues.{SeenValue, has_lock}
 use Rattle.ds_image.specs.declared.asks.Ask.{Ask}

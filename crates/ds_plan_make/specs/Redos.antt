@@ -6,7 +6,7 @@ use Rattle.ds_base.specs.declared.names.NodeKind.{NodeKind}
 use Rattle.ds_dir.specs.declared.sub_block.Entry.{Entry}
 use Rattle.ds_fd.specs.Body.{links_of}
 use Rattle.ds_fd.specs.declared.body.Body.{Body}
-use Rattle.ds_image.specs.Pending.{Pair}
+use Rattle.ds_image_parts.specs.Pending.{Pair}
 use Rattle.ds_plan_make.specs.declared.objects.NewObject.{NewObject}
 use Rattle.ds_plan_base.specs.Items.{number_of}
 use Rattle.ds_plan_base.specs.Redos.{block_alone, block_filled, body_grown, body_pair, in_order, map_pair, sub_pair}

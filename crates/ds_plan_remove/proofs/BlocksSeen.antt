@@ -10,8 +10,8 @@ use Rattle.ds_base.specs.declared.names.NodeKind.{NodeKind}
 use Rattle.ds_base.specs.declared.names.NodeKind.TheVariants as kinds
 use Rattle.ds_image.proofs.Bits.{flat-get}
 use Rattle.ds_fd.specs.declared.body.Body.{Body}
-use Rattle.ds_image.specs.Objects.{addresses_in, ptrs_by, ptrs_of, pointed_by, blocks_by, blocks_of}
-use Rattle.ds_image.specs.Parts.{Parts, part_at}
+use Rattle.ds_image_parts.specs.Objects.{addresses_in, ptrs_by, ptrs_of, pointed_by, blocks_by, blocks_of}
+use Rattle.ds_image_parts.specs.Parts.{Parts, part_at}
 use Rattle.ds_image.specs.Locks.{block_seen}
 use Rattle.ds_tree.specs.Counts.{pointer_blocks}
 

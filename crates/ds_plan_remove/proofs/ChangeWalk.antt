@@ -20,10 +20,10 @@ use Rattle.ds_plan_laws_gone.proofs.Ended.{ended-is_body}
 use Rattle.ds_plan_laws_gone.proofs.GuardedGone.{gone-guarded_before, gone-guarded_after}
 use Rattle.ds_plan_laws_gone.proofs.StandsGone.{gone-pairs, gone-leaves}
 use Rattle.ds_image.specs.Asking.{Agrees}
-use Rattle.ds_image.specs.Objects.{subs_by, subs_of, used_rooms}
-use Rattle.ds_image.specs.Parts.{Parts}
-use Rattle.ds_image.specs.Pending.{Pair}
-use Rattle.ds_image.specs.Readings.{ReadsParts}
+use Rattle.ds_image_parts.specs.Objects.{subs_by, subs_of, used_rooms}
+use Rattle.ds_image_parts.specs.Parts.{Parts}
+use Rattle.ds_image_parts.specs.Pending.{Pair}
+use Rattle.ds_image_parts.specs.Readings.{ReadsParts}
 use Rattle.ds_image.specs.SeenValues.{SeenValue, look_of}
 use Rattle.ds_image.specs.Sound.{StandsFor}
 use Rattle.ds_image.proofs.Spelling.Sizes.{body_is}

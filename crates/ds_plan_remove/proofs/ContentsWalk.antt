@@ -21,17 +21,17 @@ use Rattle.ds_dir.specs.declared.sub_block.Entry.{Entry}
 use Rattle.ds_dir.specs.declared.sub_block.SubBlock.{SubBlock}
 use Rattle.ds_fd.specs.declared.body.Body.{Body}
 use Rattle.ds_image.specs.Asking.{Agrees}
-use Rattle.ds_image.specs.Objects.{subs_by, subs_of, ptrs_by, ptrs_of, addresses_in, blocks_by, blocks_of, used_rooms, entries_of}
-use Rattle.ds_image.specs.Owns.{IsAt}
-use Rattle.ds_image.specs.Parts.{Parts, part_at}
-use Rattle.ds_image.specs.Readings.{ReadsParts}
+use Rattle.ds_image_parts.specs.Objects.{subs_by, subs_of, ptrs_by, ptrs_of, addresses_in, blocks_by, blocks_of, used_rooms, entries_of}
+use Rattle.ds_image_tables.specs.Owns.{IsAt}
+use Rattle.ds_image_parts.specs.Parts.{Parts, part_at}
+use Rattle.ds_image_parts.specs.Readings.{ReadsParts}
 use Rattle.ds_image.specs.SeenValues.{SeenValue, has_lock, look_of}
 use Rattle.ds_image.specs.Sound.{StandsFor, ptr_lists}
 use Rattle.ds_image.specs.SoundObjects.{AreNamesApart}
 use Rattle.ds_image.specs.declared.asks.Ask.{Ask}
 use Rattle.ds_image.specs.declared.asks.Ask.TheVariants as asks
 use Rattle.ds_image.proofs.Ownership.Listed.{ptr_listed_within}
-use Rattle.ds_image.proofs.Spelling.Places.{at-append_right}
+use Rattle.ds_image_tables.proofs.Spelling.Places.{at-append_right}
 use Rattle.ds_image.proofs.Spelling.SoundParts.{list-is, objects-of}
 use Rattle.ds_layout.specs.Places.{place_sector}
 use Rattle.ds_layout.specs.declared.places.Place.TheVariants as places

@@ -18,9 +18,9 @@ use Rattle.ds_dir.specs.declared.sub_block.Entry.{Entry}
 use Rattle.ds_fd.specs.declared.body.Body.{Body}
 use Rattle.ds_plan_laws_gone.specs.Leaving.{go_call}
 use Rattle.ds_image.specs.Asking.{Agrees}
-use Rattle.ds_image.specs.Objects.{subs_by, subs_of, used_rooms, entries_of, blocks_by, node_by}
-use Rattle.ds_image.specs.Parts.{Parts, part_at}
-use Rattle.ds_image.specs.Readings.{ReadsParts}
+use Rattle.ds_image_parts.specs.Objects.{subs_by, subs_of, used_rooms, entries_of, blocks_by, node_by}
+use Rattle.ds_image_parts.specs.Parts.{Parts, part_at}
+use Rattle.ds_image_parts.specs.Readings.{ReadsParts}
 use Rattle.ds_image.specs.SeenValues.{SeenValue, has_lock, look_of}
 use Rattle.ds_image.specs.Sound.{StandsFor}
 use Rattle.ds_image.specs.declared.asks.Ask.{Ask}
@@ -33,7 +33,7 @@ use Rattle.ds_plan_base.specs.Bodies.{body_seen, dir_of_key}
 use Rattle.ds_plan_base.proofs.DirAsks.{DirAsks, dir_sectors}
 use Rattle.ds_plan_base.proofs.DirSeen.{HasDir, IsFoundIn, said_found, said_entry}
 use Rattle.ds_plan_base.specs.Entries.{found_in, entry_by, wanted_entry}
-use Rattle.ds_image.specs.Objects.{entry_named}
+use Rattle.ds_image_parts.specs.Objects.{entry_named}
 use Rattle.ds_plan_base.proofs.Goes.{Goes}
 use Rattle.ds_image.specs.Locks.{MayLock, of_entry, keys_of, RemovesEntry, SeesEntry}
 use Rattle.ds_plan_base.proofs.PlanAsks.{PlanAsks}

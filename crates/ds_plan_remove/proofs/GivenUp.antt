@@ -10,12 +10,12 @@ use Rattle.ds_base.specs.declared.names.NodeKind.TheVariants as kinds
 use Rattle.ds_dir.specs.declared.sub_block.Entry.{Entry}
 use Rattle.ds_fd.specs.declared.body.Body.{Body}
 use Rattle.ds_plan_laws_gone.specs.Leaving.{go_call, given_up}
-use Rattle.ds_image.specs.Objects.{subs_by, ptrs_by, subs_of, ptrs_of, blocks_by, blocks_of, addresses_in, is_used}
-use Rattle.ds_image.specs.Owns.{Owns, IsAt, bit}
-use Rattle.ds_image.specs.Parts.{Parts, part_at, maps_of, bits_in}
+use Rattle.ds_image_parts.specs.Objects.{subs_by, ptrs_by, subs_of, ptrs_of, blocks_by, blocks_of, addresses_in, is_used}
+use Rattle.ds_image_tables.specs.Owns.{Owns, IsAt, bit}
+use Rattle.ds_image_parts.specs.Parts.{Parts, part_at, maps_of, bits_in}
 use Rattle.ds_image.specs.SeenValues.{SeenValue}
 use Rattle.ds_image.specs.Sound.{IsSound}
-use Rattle.ds_image.proofs.Spelling.Places.{at-single, Contains-from_at}
+use Rattle.ds_image_tables.proofs.Spelling.Places.{at-single, Contains-from_at}
 use Rattle.ds_image.proofs.Spelling.Sizes.{part_within}
 use Rattle.ds_image.proofs.Spelling.SoundParts.{list-is}
 use Rattle.ds_image.specs.Locks.{SeesBody, SeesEntry, SeesNamed, SeesEmpty, block_past, pointer_past, GivesUp, file_itself, item_of_file, dir_itself, sub_block_of_dir}

@@ -19,13 +19,13 @@ use Rattle.ds_fd.specs.declared.body.Body.{Body}
 use Rattle.ds_plan_laws_gone.specs.Leaving.{go_call}
 use Rattle.ds_plan_laws_gone.specs.Leaving as leaving
 use Rattle.ds_image.specs.Asking.{Agrees}
-use Rattle.ds_image.specs.Objects.{subs_by, ptrs_by, blocks_by, subs_of, ptrs_of, blocks_of, addresses_in, used_rooms, entries_of}
-use Rattle.ds_image.specs.Parts.{Parts, part_at}
-use Rattle.ds_image.specs.Readings.{ReadsParts}
+use Rattle.ds_image_parts.specs.Objects.{subs_by, ptrs_by, blocks_by, subs_of, ptrs_of, blocks_of, addresses_in, used_rooms, entries_of}
+use Rattle.ds_image_parts.specs.Parts.{Parts, part_at}
+use Rattle.ds_image_parts.specs.Readings.{ReadsParts}
 use Rattle.ds_image.specs.SeenValues.{SeenValue, look_of}
 use Rattle.ds_image.specs.Sound.{StandsFor}
 use Rattle.ds_image.specs.declared.asks.Ask.{Ask}
-use Rattle.ds_image.proofs.Spelling.Places.{at-single}
+use Rattle.ds_image_tables.proofs.Spelling.Places.{at-single}
 use Rattle.ds_jrnl.specs.declared.redo.Redo.{Redo}
 use Rattle.ds_layout.specs.Places.{cluster_lock, place_sector}
 use Rattle.ds_layout.specs.declared.places.Place.TheVariants as places

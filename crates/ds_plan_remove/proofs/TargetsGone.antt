@@ -14,8 +14,8 @@ use Rattle.ds_plan_laws_gone.specs.MapWrites.{MapWrite, map_pairs}
 use Rattle.ds_plan_laws_gone.proofs.StandsGone.{gone-pairs}
 use Rattle.ds_image.specs.Asking.{AreTargets, targets_of}
 use Rattle.ds_layout.specs.Metadata.{IsMetadata}
-use Rattle.ds_image.specs.Pending.{Pair}
-use Rattle.ds_image.proofs.Spelling.Places.{at-append}
+use Rattle.ds_image_parts.specs.Pending.{Pair}
+use Rattle.ds_image_tables.proofs.Spelling.Places.{at-append}
 use Rattle.ds_image.proofs.Spelling.SoundParts.{all-from_at}
 use Rattle.ds_layout.specs.Places.{place_sector}
 use Rattle.ds_layout.specs.declared.places.Place.TheVariants as places

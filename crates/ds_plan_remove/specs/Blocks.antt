@@ -3,8 +3,8 @@ use Rattle.std.specs.Prelude.{ℕ, nat_le, if◌then◌else◌, List, [], ◌∷
 use Rattle.arrayvec.specs.ArrayVec.{ArrayVec}
 use Rattle.ds_base.specs.declared.geometry.Geom.{Geom}
 use Rattle.ds_fd.specs.declared.body.Body.{Body}
-use Rattle.ds_image.specs.Objects.{ptrs_of}
-use Rattle.ds_image.specs.Parts.{Parts}
+use Rattle.ds_image_parts.specs.Objects.{ptrs_of}
+use Rattle.ds_image_parts.specs.Parts.{Parts}
 use Rattle.ds_image.specs.SeenValues.{SeenValue}
 use Rattle.ds_plan_base.specs.Pointers.{pointer_seen}
 use Rattle.ds_plan_base.specs.Steps.{after}

@@ -28,10 +28,10 @@ use Rattle.ds_plan_laws_gone.proofs.StandsCrossed.{crossed-pairs, crossed-leaves
 use Rattle.ds_plan_laws_gone.proofs.StandsCrossedGrown.{crossed_grown-pairs, crossed_grown-leaves, crossed_grown-guarded_before, crossed_grown-guarded_after}
 use Rattle.ds_plan_laws_gone.proofs.StandsRenamed.{renamed-leaves, renamed-guarded_before, renamed-guarded_after}
 use Rattle.ds_image.specs.Asking.{Agrees}
-use Rattle.ds_image.specs.Objects.{subs_by, subs_of, used_rooms, entries_of}
-use Rattle.ds_image.specs.Parts.{Parts, part_at, maps_of}
-use Rattle.ds_image.specs.Pending.{Pair}
-use Rattle.ds_image.specs.Readings.{ReadsParts}
+use Rattle.ds_image_parts.specs.Objects.{subs_by, subs_of, used_rooms, entries_of}
+use Rattle.ds_image_parts.specs.Parts.{Parts, part_at, maps_of}
+use Rattle.ds_image_parts.specs.Pending.{Pair}
+use Rattle.ds_image_parts.specs.Readings.{ReadsParts}
 use Rattle.ds_image.specs.SeenValues.{SeenValue, look_of}
 use Rattle.ds_image.specs.Sound.{StandsFor}
 use Rattle.ds_layout.proofs.Bounds.{most_items_of}

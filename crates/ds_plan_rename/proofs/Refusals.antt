@@ -11,11 +11,11 @@ use Rattle.ds_base.specs.declared.sectors.Sector.{Sector}
 use Rattle.ds_dir.specs.declared.sub_block.Entry.{Entry}
 use Rattle.ds_fd.specs.declared.body.Body.{Body}
 use Rattle.ds_plan_laws_gone.proofs.Going.{entry-node}
-use Rattle.ds_image.specs.Objects.{subs_of, used_rooms, entries_of, node_by}
-use Rattle.ds_image.specs.Parts.{Parts, part_at}
+use Rattle.ds_image_parts.specs.Objects.{subs_of, used_rooms, entries_of, node_by}
+use Rattle.ds_image_parts.specs.Parts.{Parts, part_at}
 use Rattle.ds_image.specs.Sound.{StandsFor, IsNamedRight}
 use Rattle.ds_image.proofs.FileTrees.EntryNames.{get-entries}
-use Rattle.ds_image.specs.Objects.{entry_named}
+use Rattle.ds_image_parts.specs.Objects.{entry_named}
 use Rattle.ds_plan_base.proofs.Dirs.{object_in}
 use Rattle.ds_plan_base.proofs.Finding.{named-at, named-find}
 use Rattle.ds_tree.specs.Counts.{free_of}

@@ -2,7 +2,7 @@
 use Rattle.std.specs.Prelude.{ℕ, Bool, if◌then◌else◌, List, Option, Some, None, Result, Ok, Err}
 use Rattle.ds_base.specs.declared.geometry.Geom.{Geom}
 use Rattle.ds_fd.specs.declared.body.Body.{Body}
-use Rattle.ds_image.specs.Parts.{Parts}
+use Rattle.ds_image_parts.specs.Parts.{Parts}
 use Rattle.ds_image.specs.SeenValues.{SeenValue}
 use Rattle.ds_plan_base.specs.Entries.{entry_by, found_from, found_in, wanted_entry}
 use Rattle.ds_plan_base.specs.Steps.{after, or_later}

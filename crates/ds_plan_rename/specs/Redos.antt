@@ -5,7 +5,7 @@ use Rattle.ds_base.specs.declared.geometry.Kind.TheVariants.{Sb}
 use Rattle.ds_dir.specs.declared.sub_block.Entry.{Entry}
 use Rattle.ds_dir.specs.declared.sub_block.SubBlock.{SubBlock}
 use Rattle.ds_fd.specs.declared.body.Body.{Body}
-use Rattle.ds_image.specs.Pending.{Pair}
+use Rattle.ds_image_parts.specs.Pending.{Pair}
 use Rattle.ds_plan_base.specs.Items.{number_of}
 use Rattle.ds_plan_base.specs.Redos.{block_alone, block_emptied, block_filled, body_grown, body_pair, map_pair, sub_pair}
 use Rattle.ds_plan_base.specs.declared.entries.Found.{Found}

@@ -13,8 +13,8 @@ use Rattle.ds_base.specs.declared.geometry.GeomField.TheVariants.{Items}
 use Rattle.ds_base.specs.declared.geometry.Kind.{Kind}
 use Rattle.ds_base.specs.declared.geometry.Kind.TheVariants.{Fd, Sb, Pb, Fb}
 use Rattle.ds_bitmap.specs.Bits.{Bitmap, IsBits}
-use Rattle.ds_image.specs.Owned.{CanMark}
-use Rattle.ds_image.specs.Parts.{Parts}
+use Rattle.ds_image_tables.specs.Owned.{CanMark}
+use Rattle.ds_image_parts.specs.Parts.{Parts}
 use Rattle.ds_image.specs.SeenValues.{SeenValue}
 use Rattle.ds_layout.proofs.Bounds.{most_items_of}
 use Rattle.ds_plan_base.specs.Items.{map_seen}

@@ -19,10 +19,10 @@ use Rattle.ds_fd.specs.Body.{IsBody}
 use Rattle.ds_fd.specs.declared.body.Body.{Body}
 use Rattle.ds_image.specs.Asking.{Agrees, targets_of, IsRightChange}
 use Rattle.ds_layout.specs.Metadata.{IsMetadata}
-use Rattle.ds_image.specs.Owned.{CanMark}
-use Rattle.ds_image.specs.Parts.{Parts, part_at, bits_in}
-use Rattle.ds_image.specs.Pending.{Pair}
-use Rattle.ds_image.specs.Readings.{ReadsParts}
+use Rattle.ds_image_tables.specs.Owned.{CanMark}
+use Rattle.ds_image_parts.specs.Parts.{Parts, part_at, bits_in}
+use Rattle.ds_image_parts.specs.Pending.{Pair}
+use Rattle.ds_image_parts.specs.Readings.{ReadsParts}
 use Rattle.ds_image.specs.SeenValues.{SeenValue, has_lock, look_of}
 use Rattle.ds_image.specs.Sound.{StandsFor}
 use Rattle.ds_image.specs.declared.asks.Ask.{Ask}

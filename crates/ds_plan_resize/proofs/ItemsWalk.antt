@@ -16,15 +16,15 @@ use Rattle.ds_base.specs.declared.sectors.Sector.{Sector}
 use Rattle.ds_bitmap.specs.Bits.{Bitmap}
 use Rattle.ds_image.proofs.Bits.{clear_count, clear-by_cluster}
 use Rattle.ds_image.specs.Asking.{Agrees}
-use Rattle.ds_image.specs.Owned.{CanMark}
-use Rattle.ds_image.specs.Parts.{Parts, part_at, maps_of, bits_in, used_bits}
-use Rattle.ds_image.specs.Pending.{Pair}
-use Rattle.ds_image.specs.Readings.{ReadsParts}
+use Rattle.ds_image_tables.specs.Owned.{CanMark}
+use Rattle.ds_image_parts.specs.Parts.{Parts, part_at, maps_of, bits_in, used_bits}
+use Rattle.ds_image_parts.specs.Pending.{Pair}
+use Rattle.ds_image_parts.specs.Readings.{ReadsParts}
 use Rattle.ds_image.specs.SeenValues.{SeenValue, look_of}
 use Rattle.ds_image.specs.Sound.{StandsFor}
 use Rattle.ds_image.specs.declared.asks.Ask.{Ask}
 use Rattle.ds_image.specs.declared.asks.Ask.TheVariants as asks
-use Rattle.ds_image.proofs.Spelling.Places.{at-append, at-single}
+use Rattle.ds_image_tables.proofs.Spelling.Places.{at-append, at-single}
 use Rattle.ds_layout.specs.Places.{cluster_lock, place_sector}
 use Rattle.ds_layout.specs.declared.places.Place.TheVariants as places
 use Rattle.ds_plan_base.proofs.Goes.{Goes}

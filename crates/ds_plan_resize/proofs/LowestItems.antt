@@ -4,7 +4,7 @@ use Rattle.std.specs.Prelude.{slice_index}
 use Rattle.std.proofs.lemmas.Bool.{cases_lt}
 use Rattle.std.proofs.lemmas.List.{take_all, take-append-le, append-nil, get_or-set_other}
 use Rattle.std.proofs.lemmas.Option.{slice_get_within, slice_get-get_or, get_or_from_slice_get}
-use Rattle.ds_image.specs.Owned.{CanMark}
+use Rattle.ds_image_tables.specs.Owned.{CanMark}
 use Rattle.ds_plan_resize.specs.Taking.{clear_from, lowest_clear}
 
 -- a mark that is set doesn't touch others

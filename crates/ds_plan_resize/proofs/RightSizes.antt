@@ -12,11 +12,11 @@ use Rattle.ds_image.specs.SeenValues.{HoldsLock}
 use Rattle.ds_plan_laws_new.proofs.RightChanges.{right-change}
 use Rattle.ds_fd.specs.declared.body.Body.{Body}
 use Rattle.ds_image.specs.Asking.{IsRightChange}
-use Rattle.ds_image.specs.Parts.{Parts}
-use Rattle.ds_image.specs.Pending.{Pair}
+use Rattle.ds_image_parts.specs.Parts.{Parts}
+use Rattle.ds_image_parts.specs.Pending.{Pair}
 use Rattle.ds_image.specs.SeenValues.{SeenValue, has_lock}
 use Rattle.ds_image.specs.Sound.{StandsFor}
-use Rattle.ds_image.proofs.Spelling.Places.{at-append}
+use Rattle.ds_image_tables.proofs.Spelling.Places.{at-append}
 use Rattle.ds_layout.specs.Places.{cluster_lock, descriptors_at, place_sector}
 use Rattle.ds_layout.specs.declared.places.Place.TheVariants as places
 use Rattle.ds_plan_base.specs.Redos.{body_pair}

@@ -5,9 +5,9 @@ use Rattle.std.specs.List.{flat_map}
 use Rattle.std.proofs.lemmas.Bool.Decides.{nat_tests}
 use Rattle.std.proofs.lemmas.Option.{slice_get_within, get_or_from_slice_get}
 use Rattle.ds_fd.specs.declared.body.Body.{Body}
-use Rattle.ds_image.specs.Objects.{addresses_in}
-use Rattle.ds_image.specs.Parts.{Parts, part_at}
-use Rattle.ds_image.proofs.Spelling.Places.{at-append}
+use Rattle.ds_image_parts.specs.Objects.{addresses_in}
+use Rattle.ds_image_parts.specs.Parts.{Parts, part_at}
+use Rattle.ds_image_tables.proofs.Spelling.Places.{at-append}
 use Rattle.ds_image.specs.Locks.{block_seen}
 use Rattle.ds_plan_resize.specs.Blocks.{pointers_in, pointers_from}
 use Rattle.ds_plan_resize.proofs.PagesWritten.{dropped-at}

@@ -20,16 +20,16 @@ use Rattle.ds_fd.specs.Body.{IsBody}
 use Rattle.ds_fd.specs.declared.body.Body.{Body}
 use Rattle.ds_image.specs.Asking.{Agrees, targets_of, IsRightChange}
 use Rattle.ds_layout.specs.Metadata.{IsMetadata}
-use Rattle.ds_image.specs.Objects.{ptrs_by}
-use Rattle.ds_image.specs.Owns.{IsAt}
-use Rattle.ds_image.specs.Parts.{Parts, part_at, bits_in}
-use Rattle.ds_image.specs.Pending.{Pair}
-use Rattle.ds_image.specs.Readings.{ReadsParts}
+use Rattle.ds_image_parts.specs.Objects.{ptrs_by}
+use Rattle.ds_image_tables.specs.Owns.{IsAt}
+use Rattle.ds_image_parts.specs.Parts.{Parts, part_at, bits_in}
+use Rattle.ds_image_parts.specs.Pending.{Pair}
+use Rattle.ds_image_parts.specs.Readings.{ReadsParts}
 use Rattle.ds_image.specs.SeenValues.{SeenValue, has_lock, look_of}
 use Rattle.ds_image.specs.Sound.{StandsFor, block_lists}
 use Rattle.ds_image.specs.declared.asks.Ask.{Ask}
-use Rattle.ds_image.proofs.Ownership.Marking.{can-none}
-use Rattle.ds_image.proofs.Spelling.Places.{at-append, Contains-from_at}
+use Rattle.ds_image_tables.proofs.Ownership.Marking.{can-none}
+use Rattle.ds_image_tables.proofs.Spelling.Places.{at-append, Contains-from_at}
 use Rattle.ds_image.proofs.Spelling.Sizes.{body_is}
 use Rattle.ds_jrnl.specs.declared.redo.Redo.{Redo}
 use Rattle.ds_layout.specs.Places.{cluster_lock, place_sector}

@@ -3,7 +3,7 @@ use Rattle.std.specs.Prelude.{ℕ, nat_lt, if◌then◌else◌, Result, Ok, Err}
 use Rattle.ds_base.specs.declared.geometry.Geom.{Geom}
 use Rattle.ds_base.specs.declared.names.Key.{Key}
 use Rattle.ds_fd.specs.declared.body.Body.{Body}
-use Rattle.ds_image.specs.Parts.{Parts}
+use Rattle.ds_image_parts.specs.Parts.{Parts}
 use Rattle.ds_image.specs.Planning.{Answers}
 use Rattle.ds_image.specs.SeenValues.{SeenValue}
 use Rattle.ds_image.specs.declared.asks.Ask.{Ask}

@@ -8,7 +8,7 @@ use Rattle.ds_base.specs.declared.names.NodeKind.{NodeKind}
 use Rattle.ds_base.specs.declared.names.NodeKind.TheVariants as kinds
 use Rattle.ds_fd.specs.Body.{IsBody}
 use Rattle.ds_fd.specs.declared.body.Body.{Body}
-use Rattle.ds_image.specs.Parts.{Parts}
+use Rattle.ds_image_parts.specs.Parts.{Parts}
 use Rattle.ds_image.specs.SeenValues.{SeenValue}
 use Rattle.ds_plan_base.specs.Bodies.{body_of_key}
 use Rattle.ds_plan_base.specs.Steps.{after}

@@ -1,6 +1,6 @@
 -- Pairs in the rising order of their sectors.
 use Rattle.std.specs.Prelude.{ℕ, suc, Bool, false, Option, Some, None, nat_lt, ◌==◌, if◌then◌else◌, List, [], ◌∷◌, fold}
-use Rattle.ds_image.specs.Pending.{Pair}
+use Rattle.ds_image_parts.specs.Pending.{Pair}
 
 -- pairs whose sectors rise with one more in its place; of two for one sector the later one counts
 abbrev pub put_in : Pair → List Pair → List Pair

@@ -4,9 +4,9 @@ use Rattle.ds_base.specs.Geometry.{clusters_of, per_cluster}
 use Rattle.ds_base.specs.declared.geometry.Geom.{Geom}
 use Rattle.ds_base.specs.declared.geometry.Kind.{Kind}
 use Rattle.ds_bitmap.specs.Bits.{Bitmap, bits_bytes}
-use Rattle.ds_image.specs.Owned.{with_marks}
-use Rattle.ds_image.specs.Parts.{Parts}
-use Rattle.ds_image.specs.Pending.{Pair}
+use Rattle.ds_image_tables.specs.Owned.{with_marks}
+use Rattle.ds_image_parts.specs.Parts.{Parts}
+use Rattle.ds_image_parts.specs.Pending.{Pair}
 use Rattle.ds_image.specs.SeenValues.{SeenValue}
 use Rattle.ds_layout.specs.Places.{place_sector}
 use Rattle.ds_layout.specs.declared.places.Place.TheVariants as places

@@ -1,8 +1,8 @@
 //! The planner of Resize.
 ghost use Rattle.std.specs.Prelude.{◌≡◌, IfOk};
 ghost use Rattle.ds_base.specs.Geometry.{IsGeom};
-ghost use Rattle.ds_image.specs.Parts.{Parts};
-ghost use Rattle.ds_image.specs.Readings.{ReadsParts};
+ghost use Rattle.ds_image_parts.specs.Parts.{Parts};
+ghost use Rattle.ds_image_parts.specs.Readings.{ReadsParts};
 ghost use Rattle.ds_image.specs.SeenValues.{look_of};
 ghost use Rattle.ds_plan_resize.specs.Answers.{IsResize, answers_of, call_of, resize_known};
 ghost use Rattle.ds_plan_resize.specs.Writable.{IsWritable};

@@ -2,9 +2,9 @@
 ghost use Rattle.std.specs.Prelude.{◌≡◌, ◌≤◌, ◌<◌, ◌+◌, ◌++◌, ℕ, IfOk, Some, length, map, slice_get};
 ghost use Rattle.ds_base.specs.Geometry.{IsGeom, clusters_of, per_cluster};
 ghost use Rattle.ds_bitmap.specs.Bits.{IsBits};
-ghost use Rattle.ds_image.specs.Owned.{CanMark};
-ghost use Rattle.ds_image.specs.Parts.{Parts};
-ghost use Rattle.ds_image.specs.Readings.{ReadsParts};
+ghost use Rattle.ds_image_tables.specs.Owned.{CanMark};
+ghost use Rattle.ds_image_parts.specs.Parts.{Parts};
+ghost use Rattle.ds_image_parts.specs.Readings.{ReadsParts};
 ghost use Rattle.ds_image.specs.SeenValues.{look_of};
 ghost use Rattle.ds_plan_resize.specs.Taking.{IsTaken, items_wanted, lowest_clear, map_marked, taken_more};
 

@@ -42,8 +42,8 @@ impl Reads {
 impl Plan for Reads {
     ghost use Rattle.std.specs.List.{Contains};
     ghost use Rattle.std.specs.Prelude.{◌≡◌, ℕ};
-    ghost use Rattle.ds_image.specs.Parts.{Parts};
-    ghost use Rattle.ds_image.specs.Readings as readings;
+    ghost use Rattle.ds_image_parts.specs.Parts.{Parts};
+    ghost use Rattle.ds_image_parts.specs.Readings as readings;
     ghost use Rattle.ds_image.specs.SeenValues.{look_of};
     ghost use Rattle.ds_plan_reads.specs.Answers.{answers_of, call_of, sectors_of};
     ghost use Rattle.ds_plan_reads.proofs.Laws.{reads_allowed, reads_few, reads_keep};

@@ -40,8 +40,8 @@ impl Space {
 
 impl Plan for Space {
     ghost use Rattle.std.specs.Prelude.{◌≡◌};
-    ghost use Rattle.ds_image.specs.Parts.{Parts};
-    ghost use Rattle.ds_image.specs.Readings.{ReadsParts};
+    ghost use Rattle.ds_image_parts.specs.Parts.{Parts};
+    ghost use Rattle.ds_image_parts.specs.Readings.{ReadsParts};
     ghost use Rattle.ds_image.specs.SeenValues.{look_of};
     ghost use Rattle.ds_plan_resize.specs.Answers.{answers_of, call_of};
     ghost use Rattle.ds_plan_resize.proofs.Laws.{resize_allowed, resize_few, resize_keeps};

@@ -4,7 +4,7 @@ use Rattle.std.specs.List.{flat_map, AllByRecursion}
 use Rattle.ds_base.specs.declared.geometry.Geom.{Geom}
 use Rattle.ds_base.specs.declared.sectors.Sector.{Sector}
 use Rattle.ds_tree.specs.Nodes.{FileTree}
-use Rattle.ds_image.specs.Logical.{IsLogical}
+use Rattle.ds_image_parts.specs.Logical.{IsLogical}
 use Rattle.ds_image.specs.Sound.{StandsFor}
 use Rattle.ds_report.specs.Listing.{listing_of}
 use Rattle.ds_check.specs.declared.findings.Find.{Find}

@@ -12,8 +12,8 @@ use Rattle.ds_base.specs.declared.geometry.Kind.TheVariants.{Fd}
 use Rattle.ds_dir.specs.declared.sub_block.Entry.{Entry}
 use Rattle.ds_tree.specs.Nodes.{Entries, Dir, Object, FileTree, unborn, object_at, node_at, with_object, with_node, fresh_tree}
 use Rattle.ds_tree.specs.Trees.{entries_of, rooms_of}
-use Rattle.ds_image.specs.Objects.{object_of, tree_of}
-use Rattle.ds_image.specs.Parts.{Parts}
+use Rattle.ds_image_parts.specs.Objects.{object_of, tree_of}
+use Rattle.ds_image_parts.specs.Parts.{Parts}
 use Rattle.ds_image.specs.SoundObjects.{AreNamesApart}
 use Rattle.ds_image.proofs.FileTrees.EntryNames.{pairs, find-new}
 

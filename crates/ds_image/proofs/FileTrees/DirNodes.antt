@@ -19,10 +19,10 @@ use Rattle.ds_fd.specs.Body.{IsBody, most_count, least_birth}
 use Rattle.ds_fd.specs.declared.body.Body.{Body}
 use Rattle.ds_tree.specs.Nodes.{Entries, Dir, File}
 use Rattle.ds_tree.specs.WellFormed.{IsDir}
-use Rattle.ds_image.specs.Looks.{Look}
-use Rattle.ds_image.specs.Objects.{subs_by, pointed_by, blocks_by, node_by, object_of, rooms_in, rooms_of, used_rooms, entries_of}
-use Rattle.ds_image.specs.Parts.{Parts, part_at}
-use Rattle.ds_image.specs.Readings.{ReadsParts}
+use Rattle.ds_image_parts.specs.Looks.{Look}
+use Rattle.ds_image_parts.specs.Objects.{subs_by, pointed_by, blocks_by, node_by, object_of, rooms_in, rooms_of, used_rooms, entries_of}
+use Rattle.ds_image_parts.specs.Parts.{Parts, part_at}
+use Rattle.ds_image_parts.specs.Readings.{ReadsParts}
 use Rattle.ds_image.proofs.FileTrees.EntryNames.{pairs, find-some, get-entries}
 use Rattle.ds_image.proofs.Spelling.Sizes.{part_within}
 use Rattle.ds_image.proofs.Spelling.SoundParts.{all-at}

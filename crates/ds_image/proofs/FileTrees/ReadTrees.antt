@@ -4,13 +4,13 @@ use Rattle.ds_base.specs.declared.geometry.Geom.{Geom}
 use Rattle.ds_base.specs.declared.sectors.Sector.{Sector}
 use Rattle.ds_tree.specs.Nodes.{FileTree}
 use Rattle.ds_tree.specs.WellFormed.{IsTree}
-use Rattle.ds_image.specs.Objects.{tree_of}
-use Rattle.ds_image.specs.Parts.{Parts}
+use Rattle.ds_image_parts.specs.Objects.{tree_of}
+use Rattle.ds_image_parts.specs.Parts.{Parts}
 use Rattle.ds_image.specs.ReadTrees.{StandsForNone}
-use Rattle.ds_image.specs.Readings.{ReadsParts}
+use Rattle.ds_image_parts.specs.Readings.{ReadsParts}
 use Rattle.ds_image.specs.Rooted.{IsRooted}
 use Rattle.ds_image.specs.Sound.{IsSound, StandsFor}
-use Rattle.ds_image.proofs.Spelling.Readings.{parts_same}
+use Rattle.ds_image_parts.proofs.Spelling.Readings.{parts_same}
 use Rattle.ds_image.proofs.FileTrees.RootedTrees.{rooted-from_tree}
 
 module _ (g : Geom) (image : List Sector) (p : Parts) (reads : ReadsParts g (slice_get image) p) where

@@ -11,11 +11,11 @@ use Rattle.ds_fd.specs.declared.body.Body.{Body}
 use Rattle.ds_tree.specs.Nodes.{Object, node_at, birth_at}
 use Rattle.ds_tree.specs.Steps.{is_dir}
 use Rattle.ds_tree.specs.WellFormed.{Names, AreNamedOnce, IsTree, Reached, root, entry}
-use Rattle.ds_image.specs.Listings.{lists_by}
-use Rattle.ds_image.specs.declared.listings.Listed.TheVariants as listed
-use Rattle.ds_image.specs.Objects.{node_by, object_of, tree_of, is_used}
-use Rattle.ds_image.specs.Owns.{Owns, IsAt, bit}
-use Rattle.ds_image.specs.Parts.{Parts, part_at}
+use Rattle.ds_image_parts.specs.Listings.{lists_by}
+use Rattle.ds_image_parts.specs.declared.listings.Listed.TheVariants as listed
+use Rattle.ds_image_parts.specs.Objects.{node_by, object_of, tree_of, is_used}
+use Rattle.ds_image_tables.specs.Owns.{Owns, IsAt, bit}
+use Rattle.ds_image_parts.specs.Parts.{Parts, part_at}
 use Rattle.ds_image.specs.Rooted.{HasRoot, named_bits, IsRooted}
 use Rattle.ds_image.specs.Sound.{IsSound, rooms_used_by, IsNamedRight}
 use Rattle.ds_image.proofs.FileTrees.EntryNames.{apart-index}

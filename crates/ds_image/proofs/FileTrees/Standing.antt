@@ -3,9 +3,9 @@ use Rattle.std.proofs.Common.{◌≡◌, List, slice_get, sym, ap, ◌∙◌}
 use Rattle.ds_base.specs.declared.geometry.Geom.{Geom}
 use Rattle.ds_base.specs.declared.sectors.Sector.{Sector}
 use Rattle.ds_tree.specs.Nodes.{FileTree}
-use Rattle.ds_image.specs.Objects.{tree_of}
+use Rattle.ds_image_parts.specs.Objects.{tree_of}
 use Rattle.ds_image.specs.Sound.{StandsFor}
-use Rattle.ds_image.proofs.Spelling.Readings.{parts_same}
+use Rattle.ds_image_parts.proofs.Spelling.Readings.{parts_same}
 
 pub stands_once : (g : Geom) (image : List Sector) (t u : FileTree) → StandsFor g image t → StandsFor g image u → t ≡ u
 stands_once g image t u a b =

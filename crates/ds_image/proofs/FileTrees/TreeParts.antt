@@ -13,11 +13,11 @@ use Rattle.ds_tree.specs.Nodes.{Entries, Node, Dir, File, Object, unborn, object
 use Rattle.ds_tree.specs.Nodes as nodes
 use Rattle.ds_tree.specs.Trees as trees
 use Rattle.ds_tree.specs.WellFormed.{Names}
-use Rattle.ds_image.specs.Listings.{named_by, lists_by}
-use Rattle.ds_image.specs.declared.listings.Listed.TheVariants as listed
-use Rattle.ds_image.specs.Objects.{subs_by, blocks_by, node_by, object_of, tree_of, subs_of, blocks_of, entries_of, is_used}
-use Rattle.ds_image.specs.Owns.{IsAt, list_of}
-use Rattle.ds_image.specs.Parts.{Parts, part_at}
+use Rattle.ds_image_parts.specs.Listings.{named_by, lists_by}
+use Rattle.ds_image_parts.specs.declared.listings.Listed.TheVariants as listed
+use Rattle.ds_image_parts.specs.Objects.{subs_by, blocks_by, node_by, object_of, tree_of, subs_of, blocks_of, entries_of, is_used}
+use Rattle.ds_image_tables.specs.Owns.{IsAt, list_of}
+use Rattle.ds_image_parts.specs.Parts.{Parts, part_at}
 use Rattle.ds_image.specs.Sound.{IsSound, rooms_used_by}
 use Rattle.ds_image.proofs.FileTrees.EntryNames.{find-some, find-at, get-entries}
 use Rattle.ds_image.proofs.Spelling.SoundParts.{list-is}

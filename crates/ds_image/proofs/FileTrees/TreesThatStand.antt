@@ -11,11 +11,11 @@ use Rattle.ds_fd.specs.declared.body.Body.{Body}
 use Rattle.ds_tree.specs.Nodes.{Node, Object, node_at, birth_at}
 use Rattle.ds_tree.specs.Nodes as nodes
 use Rattle.ds_tree.specs.WellFormed.{IsTree}
-use Rattle.ds_image.specs.Looks.{Look}
-use Rattle.ds_image.specs.Objects.{object_of, tree_of, blocks_of}
-use Rattle.ds_image.specs.Owns.{IsAt}
-use Rattle.ds_image.specs.Parts.{Parts, part_at}
-use Rattle.ds_image.specs.Readings.{ReadsParts}
+use Rattle.ds_image_parts.specs.Looks.{Look}
+use Rattle.ds_image_parts.specs.Objects.{object_of, tree_of, blocks_of}
+use Rattle.ds_image_tables.specs.Owns.{IsAt}
+use Rattle.ds_image_parts.specs.Parts.{Parts, part_at}
+use Rattle.ds_image_parts.specs.Readings.{ReadsParts}
 use Rattle.ds_image.specs.Rooted.{IsRooted}
 use Rattle.ds_image.specs.Sound.{IsSound, block_lists}
 use Rattle.ds_image.proofs.FileTrees.DirNodes.{dirs-of, files-of, born-of}

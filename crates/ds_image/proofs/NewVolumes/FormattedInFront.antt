@@ -18,7 +18,7 @@ use Rattle.ds_layout.specs.declared.places.Place.{Place}
 use Rattle.ds_layout.specs.declared.places.Place.TheVariants as places
 use Rattle.ds_lun.specs.Devices.{zero_sector}
 use Rattle.ds_image.specs.Formatted.{formatted_at, IsFormatted}
-use Rattle.ds_image.specs.Looks.{HasBytes}
+use Rattle.ds_image_parts.specs.Looks.{HasBytes}
 use Rattle.ds_layout.proofs.MetadataPlaces.{metadata_within}
 
 -- the first n sectors of the formatted volume, and zero behind them

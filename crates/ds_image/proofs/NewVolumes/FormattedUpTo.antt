@@ -10,7 +10,7 @@ use Rattle.ds_layout.proofs.SamePlace.{place_within}
 use Rattle.ds_layout.specs.Places.{IsPlace, place_sector, total_of}
 use Rattle.ds_layout.specs.declared.places.Place.{Place}
 use Rattle.ds_image.specs.Formatted.{formatted_at, IsFormatted}
-use Rattle.ds_image.specs.Looks.{HasBytes}
+use Rattle.ds_image_parts.specs.Looks.{HasBytes}
 
 -- the first n sectors of the formatted volume
 pub record IsFormattedUpTo (g : Geom) (volume : List ℕ) (n : ℕ) (sectors : List Sector) : Type 0 where

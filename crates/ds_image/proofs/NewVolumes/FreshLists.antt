@@ -6,9 +6,9 @@ use Rattle.std.proofs.lemmas.List.FromFn.{length-map-range_with_len, get_or-map-
 use Rattle.std.specs.List.{flat_map, range_with_len}
 use Rattle.ds_base.specs.Decoding.{IsDecoded}
 use Rattle.ds_bitmap.specs.Bits.{Bitmap}
-use Rattle.ds_image.specs.Owns.{Owns, list_of, bit}
-use Rattle.ds_image.specs.Parts.{part_at, AllSpelled, used_bits, bits_in}
-use Rattle.ds_image.specs.Readings.{IsReading}
+use Rattle.ds_image_tables.specs.Owns.{Owns, list_of, bit}
+use Rattle.ds_image_parts.specs.Parts.{part_at, AllSpelled, used_bits, bits_in}
+use Rattle.ds_image_parts.specs.Readings.{IsReading}
 
 -- the parts with the numbers below n
 abbrev pub made : {V : Type 0} → (ℕ → V) → ℕ → List (Option V)

@@ -16,9 +16,9 @@ use Rattle.ds_fd.specs.declared.body.Body.{Body}
 use Rattle.ds_ptr.specs.declared.ptr_block.PtrBlock.{PtrBlock}
 use Rattle.ds_tree.specs.Nodes.{FileTree, Object, unborn, fresh_tree}
 use Rattle.ds_image.specs.Formatted.{fresh_body, fresh_bits}
-use Rattle.ds_image.specs.Objects.{is_used, subs_of, ptrs_of, blocks_of, tail_of, used_rooms, object_of, tree_of}
-use Rattle.ds_image.specs.Owns.{list_of, bit}
-use Rattle.ds_image.specs.Parts.{Parts, part_at, AllSpelled, maps_of, bits_in}
+use Rattle.ds_image_parts.specs.Objects.{is_used, subs_of, ptrs_of, blocks_of, tail_of, used_rooms, object_of, tree_of}
+use Rattle.ds_image_tables.specs.Owns.{list_of, bit}
+use Rattle.ds_image_parts.specs.Parts.{Parts, part_at, AllSpelled, maps_of, bits_in}
 use Rattle.ds_image.specs.Sound.{sub_lists, ptr_lists, block_lists, rooms_used_by, AreZero, IsSound}
 use Rattle.ds_image.proofs.NewVolumes.FreshLists.{made, each_made, all_made, first_and_same, clear_bits_in, first_bit_in, get_or-replicate_same, none_there, owns_nothing}
 

@@ -30,13 +30,13 @@ use Rattle.ds_ptr.specs.PtrBlock.{IsPtrBlock, ptr_bytes}
 use Rattle.ds_tree.proofs.FreshTree.{fresh-is_tree}
 use Rattle.ds_tree.specs.Nodes.{fresh_tree}
 use Rattle.ds_image.specs.Formatted.{fresh_slot, fresh_body, fresh_bits, formatted_at, IsFormatted}
-use Rattle.ds_image.specs.Logical.{laid_over, IsLogical}
-use Rattle.ds_image.specs.Looks.{Look, HasBytes}
+use Rattle.ds_image_parts.specs.Logical.{laid_over, IsLogical}
+use Rattle.ds_image_parts.specs.Looks.{Look, HasBytes}
 use Rattle.ds_layout.proofs.MetadataPlaces.{metadata_within}
 use Rattle.ds_layout.specs.Metadata.{is_metadata, front_of}
-use Rattle.ds_image.specs.Parts.{maps_of}
-use Rattle.ds_image.specs.Pending.{Pair, AreOfSlot, ArePending}
-use Rattle.ds_image.specs.Readings.{SpellsSlot, SpellsBody, SpellsBits, SpellsSub, SpellsPtr, IsReading, ReadsParts}
+use Rattle.ds_image_parts.specs.Parts.{maps_of}
+use Rattle.ds_image_parts.specs.Pending.{Pair, AreOfSlot, ArePending}
+use Rattle.ds_image_parts.specs.Readings.{SpellsSlot, SpellsBody, SpellsBits, SpellsSub, SpellsPtr, IsReading, ReadsParts}
 use Rattle.ds_image.specs.Sound.{StandsFor}
 use Rattle.ds_image.proofs.NewVolumes.FreshLists.{reading_made, decoded_one, get_or-replicate_same}
 use Rattle.ds_image.proofs.NewVolumes.FreshParts.{empty_ptr, fresh_parts, fresh_sound, tree_of-fresh}

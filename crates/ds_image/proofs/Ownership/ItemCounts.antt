@@ -14,14 +14,14 @@ use Rattle.ds_fd.specs.Body.{IsBody, most_count}
 use Rattle.ds_fd.specs.declared.body.Body.{Body}
 use Rattle.ds_tree.specs.Counts.{node_uses, used_of, pointer_blocks}
 use Rattle.ds_tree.specs.Nodes.{Object}
-use Rattle.ds_image.specs.Looks.{Look}
-use Rattle.ds_image.specs.Objects.{subs_by, ptrs_by, blocks_by, node_by, object_of, tree_of, subs_of, ptrs_of, blocks_of}
-use Rattle.ds_image.specs.Owns.{Owns}
-use Rattle.ds_image.specs.Parts.{Parts, maps_of, bits_in}
-use Rattle.ds_image.specs.Readings.{ReadsParts}
+use Rattle.ds_image_parts.specs.Looks.{Look}
+use Rattle.ds_image_parts.specs.Objects.{subs_by, ptrs_by, blocks_by, node_by, object_of, tree_of, subs_of, ptrs_of, blocks_of}
+use Rattle.ds_image_tables.specs.Owns.{Owns}
+use Rattle.ds_image_parts.specs.Parts.{Parts, maps_of, bits_in}
+use Rattle.ds_image_parts.specs.Readings.{ReadsParts}
 use Rattle.ds_image.specs.Sound.{IsSound}
 use Rattle.ds_image.proofs.Ownership.Listed.{bits_length}
-use Rattle.ds_image.proofs.Ownership.OwnedCounts.{used_are}
+use Rattle.ds_image_tables.proofs.Ownership.OwnedCounts.{used_are}
 use Rattle.ds_image.proofs.Spelling.Sizes.{body_is, file_size, many_pointers}
 use Rattle.ds_image.proofs.FileTrees.TreeParts.{objects-are}
 

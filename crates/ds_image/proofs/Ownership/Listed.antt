@@ -8,10 +8,10 @@ use Rattle.ds_base.specs.declared.geometry.Geom.{Geom}
 use Rattle.ds_base.specs.declared.geometry.Kind.{Kind}
 use Rattle.ds_base.specs.declared.geometry.Kind.TheVariants.{Sb, Pb, Fb}
 use Rattle.ds_bitmap.specs.Bits.{Bitmap}
-use Rattle.ds_image.specs.Looks.{Look}
-use Rattle.ds_image.specs.Owns.{Owns, IsAt}
-use Rattle.ds_image.specs.Parts.{Parts, part_at, AllSpelled, used_bits, bits_in}
-use Rattle.ds_image.specs.Readings.{SpellsBits, IsReading, ReadsParts}
+use Rattle.ds_image_parts.specs.Looks.{Look}
+use Rattle.ds_image_tables.specs.Owns.{Owns, IsAt}
+use Rattle.ds_image_parts.specs.Parts.{Parts, part_at, AllSpelled, used_bits, bits_in}
+use Rattle.ds_image_parts.specs.Readings.{SpellsBits, IsReading, ReadsParts}
 use Rattle.ds_image.specs.Sound.{IsSound, sub_lists, ptr_lists, block_lists}
 use Rattle.ds_image.proofs.Spelling.Sizes.{length-flat_map_each}
 

@@ -4,17 +4,17 @@ use Rattle.std.specs.Prelude.{replicate}
 use Rattle.std.proofs.lemmas.Bool.{cases_eq, cases_lt}
 use Rattle.std.proofs.lemmas.List.{append-nil, drop_all, take_more, take_all, length-set, get_or-set_same, get_or-set_other, get_or-replicate, get_or_past, length-replicate, length-map, set_past}
 use Rattle.ds_tree.specs.WellFormed.{Names}
-use Rattle.ds_image.specs.Listings.{named_by, lists_by}
-use Rattle.ds_image.specs.declared.listings.Listed.TheVariants as listed
+use Rattle.ds_image_parts.specs.Listings.{named_by, lists_by}
+use Rattle.ds_image_parts.specs.declared.listings.Listed.TheVariants as listed
 use Rattle.ds_image.specs.ListParents.{SetsParents, AreParentsOf}
-use Rattle.ds_image.specs.Objects.{tree_of, is_used}
-use Rattle.ds_image.specs.Owns.{Owns, IsAt, list_of}
-use Rattle.ds_image.specs.Parents.{parent_of}
-use Rattle.ds_image.specs.Parts.{Parts}
+use Rattle.ds_image_parts.specs.Objects.{tree_of, is_used}
+use Rattle.ds_image_tables.specs.Owns.{Owns, IsAt, list_of}
+use Rattle.ds_image_tables.specs.Parents.{parent_of}
+use Rattle.ds_image_parts.specs.Parts.{Parts}
 use Rattle.ds_image.specs.Rooted.{named_bits}
 use Rattle.ds_image.specs.Sound.{IsSound}
-use Rattle.ds_image.proofs.Parenthood.TreeParents.{AreParentsIn}
-use Rattle.ds_image.proofs.Spelling.Places.{at-append, at-append_left, at-append_right, at-single, marked-within}
+use Rattle.ds_image_tables.proofs.Parenthood.TreeParents.{AreParentsIn}
+use Rattle.ds_image_tables.proofs.Spelling.Places.{at-append, at-append_left, at-append_right, at-single, marked-within}
 use Rattle.ds_image.proofs.FileTrees.TreeParts.{entry-from_list, list-from_name, name-from_entry}
 
 pub sets-none : (old : List (Option ℕ)) (dir : ℕ) → SetsParents old [] dir old

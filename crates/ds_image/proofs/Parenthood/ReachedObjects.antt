@@ -2,17 +2,17 @@
 use Rattle.std.proofs.Common.{◌≡◌, ℕ, ◌<◌, ◌↔◌, Bool, true, false, List, length, Option, None, slice_index_or, sym, ap, ◌∙◌, inl, inr, arith}
 use Rattle.std.proofs.lemmas.Bool.{false≢true, cases_lt}
 use Rattle.std.proofs.lemmas.List.{get_or_past}
-use Rattle.ds_image.specs.Listings.{lists_by}
-use Rattle.ds_image.specs.declared.listings.Listed.TheVariants as listed
+use Rattle.ds_image_parts.specs.Listings.{lists_by}
+use Rattle.ds_image_parts.specs.declared.listings.Listed.TheVariants as listed
 use Rattle.ds_image.specs.ListParents.{AreParentsOf}
-use Rattle.ds_image.specs.Objects.{is_used, tree_of}
-use Rattle.ds_image.specs.Owns.{Owns}
-use Rattle.ds_image.specs.Parents.{AreReached}
-use Rattle.ds_image.specs.Parts.{Parts, part_at}
+use Rattle.ds_image_parts.specs.Objects.{is_used, tree_of}
+use Rattle.ds_image_tables.specs.Owns.{Owns}
+use Rattle.ds_image_tables.specs.Parents.{AreReached}
+use Rattle.ds_image_parts.specs.Parts.{Parts, part_at}
 use Rattle.ds_image.specs.Rooted.{HasRoot, named_bits, IsRooted}
 use Rattle.ds_image.specs.Sound.{IsSound}
 use Rattle.ds_image.proofs.Parenthood.ListParents.{parents-in}
-use Rattle.ds_image.proofs.Parenthood.ReachedParents.{leads-iff_reached}
+use Rattle.ds_image_tables.proofs.Parenthood.ReachedParents.{leads-iff_reached}
 
 pub used-within : (p : Parts) (o : ℕ) → is_used (part_at p.bodies o) ≡ true → o < length p.bodies
 used-within p o used = elim (cases_lt o (length p.bodies)) [

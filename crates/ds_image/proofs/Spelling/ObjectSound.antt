@@ -6,8 +6,8 @@ use Rattle.std.proofs.lemmas.Bool.{cases_lt}
 use Rattle.std.proofs.lemmas.List.{take_rest, drop_min, get_or_past}
 use Rattle.std.proofs.lemmas.List.Elements.{All-nil}
 use Rattle.ds_fd.specs.declared.body.Body.{Body}
-use Rattle.ds_image.specs.Objects.{addresses_in, ptrs_of, tail_of}
-use Rattle.ds_image.specs.Parts.{Parts, part_at}
+use Rattle.ds_image_parts.specs.Objects.{addresses_in, ptrs_of, tail_of}
+use Rattle.ds_image_parts.specs.Parts.{Parts, part_at}
 use Rattle.ds_image.specs.Sound.{IsNamedRight}
 use Rattle.ds_image.specs.SoundObjects.{count_in, IsSoundObject}
 use Rattle.ds_image.proofs.FileTrees.NamesApart.{apart-none}

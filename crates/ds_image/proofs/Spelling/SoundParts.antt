@@ -10,11 +10,11 @@ use Rattle.ds_base.specs.declared.geometry.Kind.{Kind}
 use Rattle.ds_base.specs.declared.geometry.Kind.TheVariants.{Fd, Sb, Pb, Fb}
 use Rattle.ds_fd.specs.declared.body.Body.{Body}
 use Rattle.ds_layout.proofs.Bounds.{most_items_of}
-use Rattle.ds_image.specs.Looks.{Look}
-use Rattle.ds_image.specs.Objects.{subs_of, ptrs_of, used_rooms}
-use Rattle.ds_image.specs.Owns.{IsAt, list_of}
-use Rattle.ds_image.specs.Parts.{Parts, part_at, AllSpelled, maps_of}
-use Rattle.ds_image.specs.Readings.{ReadsParts}
+use Rattle.ds_image_parts.specs.Looks.{Look}
+use Rattle.ds_image_parts.specs.Objects.{subs_of, ptrs_of, used_rooms}
+use Rattle.ds_image_tables.specs.Owns.{IsAt, list_of}
+use Rattle.ds_image_parts.specs.Parts.{Parts, part_at, AllSpelled, maps_of}
+use Rattle.ds_image_parts.specs.Readings.{ReadsParts}
 use Rattle.ds_image.specs.Sound.{IsSound, IsNamedRight}
 use Rattle.ds_image.specs.SoundObjects.{IsSoundObject, IsMarked, HasShortRows}
 use Rattle.ds_image.proofs.Ownership.Listed.{bits_length}

@@ -1,6 +1,6 @@
 -- The findings of the numbers so far are noted.
 use Rattle.std.proofs.Common.{◌≡◌, ◌++◌}
-use Rattle.ds_image.specs.Parts.{part_at}
+use Rattle.ds_image_parts.specs.Parts.{part_at}
 use Rattle.ds_check.specs.Addresses.{address_finds}
 use Rattle.ds_check.specs.Rows.{row}
 use Rattle.ds_check.proofs.addresses.note_misaddressed.Given as goal

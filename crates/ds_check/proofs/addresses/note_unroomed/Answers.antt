@@ -1,7 +1,7 @@
 -- Those of one more number are noted.
 use Rattle.std.proofs.Common.{refl}
-use Rattle.ds_image.specs.Objects.{subs_of}
-use Rattle.ds_image.specs.Parts.{part_at}
+use Rattle.ds_image_parts.specs.Objects.{subs_of}
+use Rattle.ds_image_parts.specs.Parts.{part_at}
 use Rattle.ds_check.specs.Addresses.{room_finds}
 use Rattle.ds_check.proofs.Rows.{row_step, same_finds}
 use Rattle.ds_check.proofs.addresses.note_unroomed.Goals as goal

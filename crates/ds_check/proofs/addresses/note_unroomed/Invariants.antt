@@ -1,7 +1,7 @@
 -- The findings of the numbers so far are noted.
 use Rattle.std.proofs.Common.{◌≡◌, ◌++◌}
-use Rattle.ds_image.specs.Objects.{subs_of}
-use Rattle.ds_image.specs.Parts.{part_at}
+use Rattle.ds_image_parts.specs.Objects.{subs_of}
+use Rattle.ds_image_parts.specs.Parts.{part_at}
 use Rattle.ds_check.specs.Addresses.{room_finds}
 use Rattle.ds_check.specs.Rows.{row}
 use Rattle.ds_check.proofs.addresses.note_unroomed.Given as goal

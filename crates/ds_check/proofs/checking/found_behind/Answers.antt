@@ -2,11 +2,11 @@
 use Rattle.std.proofs.lemmas.Result.{IfOk-weaker}
 use Rattle.std.proofs.Common.{◌≡◌, [], slice_get, subst}
 use Rattle.ds_base.specs.declared.geometry.Geom.{Geom}
-use Rattle.ds_image.specs.BadSectors.{IsLeastBad}
-use Rattle.ds_image.specs.Faults.{IsFaultOf}
-use Rattle.ds_image.specs.ImageValues.{ImageValue, IsImage}
-use Rattle.ds_image.specs.Readings.{ReadsParts}
-use Rattle.ds_image.specs.declared.images.ImageFault.{ImageFault}
+use Rattle.ds_image_parts.specs.BadSectors.{IsLeastBad}
+use Rattle.ds_image_parts.specs.Faults.{IsFaultOf}
+use Rattle.ds_image_parts.specs.ImageValues.{ImageValue, IsImage}
+use Rattle.ds_image_parts.specs.Readings.{ReadsParts}
+use Rattle.ds_image_parts.specs.declared.images.ImageFault.{ImageFault}
 use Rattle.ds_check.specs.Checks.{StandsForTree}
 use Rattle.ds_check.specs.Findings.{AreFoundIn}
 use Rattle.ds_check.proofs.CleanTrees.{stands-found}

@@ -2,7 +2,7 @@
 use Rattle.std.proofs.Common.{◌≡◌, [], ◌∷◌, ◌++◌, slice_get, rules, arith}
 use Rattle.ds_base.specs.Geometry.{clusters_of}
 use Rattle.ds_check.specs.Controls.{SpellsCluster}
-use Rattle.ds_image.proofs.Spelling.PartsRead.{reading-more, reading-all}
+use Rattle.ds_image_parts.proofs.Spelling.PartsRead.{reading-more, reading-all}
 use Rattle.ds_check.proofs.controls.clusters_of.Goals as goal
 
 pub loop-number-preserved : goal.loop-number-preserved

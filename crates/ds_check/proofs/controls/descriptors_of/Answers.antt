@@ -3,7 +3,7 @@ use Rattle.std.proofs.Common.{◌≡◌, [], ◌∷◌, ◌++◌, slice_get, rul
 use Rattle.ds_base.specs.declared.geometry.Kind.TheVariants.{Fd}
 use Rattle.ds_base.specs.Geometry.{items_of}
 use Rattle.ds_check.specs.Controls.{SpellsOwner}
-use Rattle.ds_image.proofs.Spelling.PartsRead.{reading-more, reading-all}
+use Rattle.ds_image_parts.proofs.Spelling.PartsRead.{reading-more, reading-all}
 use Rattle.ds_check.proofs.controls.descriptors_of.Goals as goal
 
 pub loop-object-preserved : goal.loop-object-preserved

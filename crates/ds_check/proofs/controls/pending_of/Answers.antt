@@ -1,7 +1,7 @@
 -- One more is decoded.
 use Rattle.std.proofs.Common.{◌≡◌, [], ◌∷◌, ◌++◌, rules, arith}
 use Rattle.ds_check.specs.Controls.{SpellsPending}
-use Rattle.ds_image.proofs.Spelling.PartsRead.{reading-more, reading-all}
+use Rattle.ds_image_parts.proofs.Spelling.PartsRead.{reading-more, reading-all}
 use Rattle.ds_check.proofs.controls.pending_of.Goals as goal
 
 pub loop-number-preserved : goal.loop-number-preserved

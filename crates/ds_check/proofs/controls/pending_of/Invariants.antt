@@ -1,5 +1,5 @@
 -- Those so far are what their sectors spell.
-use Rattle.ds_image.specs.Readings.{IsReading}
+use Rattle.ds_image_parts.specs.Readings.{IsReading}
 use Rattle.ds_check.specs.Controls.{SpellsPending}
 use Rattle.ds_check.proofs.controls.pending_of.Given as goal
 

@@ -1,6 +1,6 @@
 -- Those of one more number are noted.
 use Rattle.ds_layout.specs.Places.{cluster_lock}
-use Rattle.ds_image.specs.Parts.{part_at}
+use Rattle.ds_image_parts.specs.Parts.{part_at}
 use Rattle.ds_check.specs.Controls.{owners_of}
 use Rattle.ds_check.specs.Headers.{cluster_form, header_form}
 use Rattle.ds_check.proofs.Rows.{row_step, same_finds}

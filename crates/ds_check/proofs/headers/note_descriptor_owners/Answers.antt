@@ -1,6 +1,6 @@
 -- Those of one more number are noted.
 use Rattle.std.proofs.Common.{refl}
-use Rattle.ds_image.specs.Parts.{part_at}
+use Rattle.ds_image_parts.specs.Parts.{part_at}
 use Rattle.ds_check.specs.Headers.{descriptor_owner, owner_finds}
 use Rattle.ds_check.proofs.Rows.{row_step, same_finds}
 use Rattle.ds_check.proofs.headers.note_descriptor_owners.Goals as goal

@@ -1,7 +1,7 @@
 -- The list tells of one more descriptor.
 use Rattle.std.proofs.Common.{◌≡◌, ℕ, [], ◌∷◌, ◌++◌, ap, ◌∙◌, rules}
-use Rattle.ds_image.specs.Objects.{is_used}
-use Rattle.ds_image.specs.Parts.{part_at}
+use Rattle.ds_image_parts.specs.Objects.{is_used}
+use Rattle.ds_image_parts.specs.Parts.{part_at}
 use Rattle.ds_check.proofs.ItemMarks.{told-more}
 use Rattle.ds_check.proofs.marking.descriptors_in_use.Goals as goal
 

@@ -1,7 +1,7 @@
 -- The list tells of one more item.
 use Rattle.std.proofs.Common.{◌≡◌, ℕ, ◌<◌, [], ◌∷◌, ◌++◌, length, ap, ◌∙◌, rules, arith}
 use Rattle.std.specs.Prelude.{nat_lt, is_some}
-use Rattle.ds_image.specs.Users.{users}
+use Rattle.ds_image_tables.specs.Users.{users}
 use Rattle.ds_check.specs.Uses.{uses_of}
 use Rattle.ds_check.proofs.ItemMarks.{has-first, told-more}
 use Rattle.ds_check.proofs.marking.listed_items.Goals as goal

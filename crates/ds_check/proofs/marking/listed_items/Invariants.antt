@@ -2,7 +2,7 @@
 use Rattle.std.proofs.Common.{◌≡◌, length, map}
 use Rattle.std.specs.Prelude.{nat_lt}
 use Rattle.std.specs.List.{range_with_len}
-use Rattle.ds_image.specs.Users.{users}
+use Rattle.ds_image_tables.specs.Users.{users}
 use Rattle.ds_check.specs.Uses.{uses_of}
 use Rattle.ds_check.proofs.marking.listed_items.Given as goal
 

@@ -1,7 +1,7 @@
 -- One more item is noted where its bit is set in the one list alone.
 use Rattle.std.proofs.Common.{ℕ, ◌++◌, ap, ◌∙◌}
 use Rattle.std.specs.Prelude.{◌&&◌, not}
-use Rattle.ds_image.specs.Owns.{bit}
+use Rattle.ds_image_tables.specs.Owns.{bit}
 use Rattle.ds_check.specs.declared.findings.Find.TheVariants as finds
 use Rattle.ds_check.specs.Rows.{find_if}
 use Rattle.ds_check.proofs.Rows.{row_step}

@@ -1,7 +1,7 @@
 -- The findings of the items so far are noted.
 use Rattle.std.proofs.Common.{◌≡◌, ◌++◌}
 use Rattle.std.specs.Prelude.{◌&&◌, not}
-use Rattle.ds_image.specs.Owns.{bit}
+use Rattle.ds_image_tables.specs.Owns.{bit}
 use Rattle.ds_check.specs.declared.findings.Find.TheVariants as finds
 use Rattle.ds_check.specs.Rows.{find_if, row}
 use Rattle.ds_check.proofs.marking.note_marked.Given as goal

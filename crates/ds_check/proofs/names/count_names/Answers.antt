@@ -3,7 +3,7 @@ use Rattle.std.proofs.Common.{◌≡◌, ◌≤◌, ◌<◌, ◌+◌, ◌-◌, �
 use Rattle.std.proofs.lemmas.List.{length-append}
 use Rattle.std.specs.List.{filter_map}
 use Rattle.ds_base.specs.declared.geometry.Kind.TheVariants.{Fd}
-use Rattle.ds_image.specs.NameCounts.{CountsNames}
+use Rattle.ds_image_tables.specs.NameCounts.{CountsNames}
 use Rattle.ds_layout.proofs.Bounds.{most_items_of}
 use Rattle.ds_check.specs.Names.{named_in}
 use Rattle.ds_check.specs.Entries.{rooms_at}

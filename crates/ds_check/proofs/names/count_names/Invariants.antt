@@ -1,6 +1,6 @@
 -- The names in the directories so far are counted.
 use Rattle.std.proofs.Common.{◌≡◌, ◌≤◌, ◌*◌, length}
-use Rattle.ds_image.specs.NameCounts.{CountsNames}
+use Rattle.ds_image_tables.specs.NameCounts.{CountsNames}
 use Rattle.ds_check.proofs.NamedRooms.{named_below}
 use Rattle.ds_check.proofs.names.count_names.Given as goal
 

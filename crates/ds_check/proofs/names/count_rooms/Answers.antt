@@ -2,7 +2,7 @@
 use Rattle.std.proofs.Common.{◌≡◌, ◌<◌, ◌+◌, ◌-◌, ◌^◌, ◌++◌, [], ◌∷◌, None, take, get_or, length, subst, ap, ◌∙◌, arith}
 use Rattle.std.proofs.lemmas.List.{get_or_default, length-append, length-take-le}
 use Rattle.std.specs.List.{filter_map}
-use Rattle.ds_image.specs.NameCounts.{CountsNames}
+use Rattle.ds_image_tables.specs.NameCounts.{CountsNames}
 use Rattle.ds_check.specs.Names.{named_in}
 use Rattle.ds_check.proofs.NamedRooms.{kept-few, kept-more}
 use Rattle.ds_check.proofs.names.count_rooms.Goals as goal

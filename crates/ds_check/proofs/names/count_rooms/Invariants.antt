@@ -1,7 +1,7 @@
 -- The names in the rooms so far are counted.
 use Rattle.std.proofs.Common.{◌≡◌, ◌<◌, ◌+◌, ◌-◌, ◌^◌, ℕ, List, ◌++◌, length, take}
 use Rattle.std.specs.List.{filter_map}
-use Rattle.ds_image.specs.NameCounts.{CountsNames}
+use Rattle.ds_image_tables.specs.NameCounts.{CountsNames}
 use Rattle.ds_check.specs.Names.{named_in}
 use Rattle.ds_check.proofs.names.count_rooms.Given as goal
 

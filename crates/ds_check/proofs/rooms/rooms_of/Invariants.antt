@@ -1,6 +1,6 @@
 -- The rooms so far are those of the sub-blocks so far, at most four each.
 use Rattle.std.proofs.Common.{◌≡◌, ◌≤◌, ◌*◌, length, take}
-use Rattle.ds_image.specs.Objects.{rooms_of}
+use Rattle.ds_image_parts.specs.Objects.{rooms_of}
 use Rattle.ds_check.proofs.rooms.rooms_of.Given as goal
 
 abbrev pub invariant-loop-number : goal.invariant-loop-number

@@ -1,6 +1,6 @@
 -- One more item is noted where it has two users.
 use Rattle.std.proofs.Common.{◌<◌, length, arith}
-use Rattle.ds_image.specs.Users.{users}
+use Rattle.ds_image_tables.specs.Users.{users}
 use Rattle.ds_check.specs.Uses.{uses_of}
 use Rattle.ds_check.specs.Sharing.{twice}
 use Rattle.ds_check.proofs.Rows.{row_step}

@@ -1,6 +1,6 @@
 -- The items so far that are listed twice are noted.
 use Rattle.std.proofs.Common.{◌≡◌, ◌++◌}
-use Rattle.ds_image.specs.Users.{users}
+use Rattle.ds_image_tables.specs.Users.{users}
 use Rattle.ds_check.specs.Uses.{uses_of}
 use Rattle.ds_check.specs.Sharing.{twice}
 use Rattle.ds_check.specs.Rows.{row}

@@ -3,7 +3,7 @@ use Rattle.std.proofs.Common.{◌≡◌, ◌++◌, List, length, sym, ap, ◌∙
 use Rattle.std.specs.Prelude.{OnOk, Result, Ok, Err}
 use Rattle.ds_base.specs.Geometry.{items_of}
 use Rattle.ds_base.specs.declared.geometry.Kind.TheVariants.{Fd}
-use Rattle.ds_image.specs.Parents.{AreReached}
+use Rattle.ds_image_tables.specs.Parents.{AreReached}
 use Rattle.ds_check.specs.declared.findings.Find.{Find}
 use Rattle.ds_check.specs.Findings.{AreLost}
 use Rattle.ds_check.specs.Unreached.{unreached_at, AreNamers}

@@ -1,7 +1,7 @@
 -- One more use is noted.
 use Rattle.std.proofs.Common.{◌∙◌, ◌++◌, take, subst}
 use Rattle.std.proofs.lemmas.List.{take_all}
-use Rattle.ds_image.specs.Users.{uses_by, KnowsUsers}
+use Rattle.ds_image_tables.specs.Users.{uses_by, KnowsUsers}
 use Rattle.ds_check.proofs.ItemUsers.{uses-more}
 use Rattle.ds_check.proofs.uses.note_uses.Goals as goal
 

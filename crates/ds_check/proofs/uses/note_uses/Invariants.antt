@@ -1,6 +1,6 @@
 -- The uses of the items so far are noted.
 use Rattle.std.proofs.Common.{◌≡◌, ℕ, List, ◌++◌, length, take}
-use Rattle.ds_image.specs.Users.{uses_by, KnowsUsers}
+use Rattle.ds_image_tables.specs.Users.{uses_by, KnowsUsers}
 use Rattle.ds_check.proofs.uses.note_uses.Given as goal
 
 abbrev pub invariant-loop-item : goal.invariant-loop-item

@@ -1,8 +1,8 @@
 -- The uses by the objects so far are noted.
 use Rattle.std.proofs.Common.{◌≡◌, length}
 use Rattle.std.specs.List.{flat_map, range_with_len}
-use Rattle.ds_image.specs.Parts.{part_at}
-use Rattle.ds_image.specs.Users.{uses_by, KnowsUsers}
+use Rattle.ds_image_parts.specs.Parts.{part_at}
+use Rattle.ds_image_tables.specs.Users.{uses_by, KnowsUsers}
 use Rattle.ds_check.specs.Uses.{items_by}
 use Rattle.ds_check.proofs.uses.users_of.Given as goal
 

@@ -8,10 +8,10 @@ use Rattle.ds_tree.proofs.FreshTree.{fresh-is_tree}
 use Rattle.ds_tree.specs.Nodes.{FileTree, Object, fresh_tree}
 use Rattle.ds_tree.specs.Trees.{TreeValue}
 use Rattle.ds_tree.specs.WellFormed.{IsTree}
-use Rattle.ds_image.specs.Looks.{Look}
-use Rattle.ds_image.specs.Objects.{is_used, object_of, tree_of}
-use Rattle.ds_image.specs.Parts.{Parts, part_at}
-use Rattle.ds_image.specs.Readings.{ReadsParts}
+use Rattle.ds_image_parts.specs.Looks.{Look}
+use Rattle.ds_image_parts.specs.Objects.{is_used, object_of, tree_of}
+use Rattle.ds_image_parts.specs.Parts.{Parts, part_at}
+use Rattle.ds_image_parts.specs.Readings.{ReadsParts}
 use Rattle.ds_image.proofs.FileTrees.BuiltTrees.{object-next, objects-more, objects-all, fresh-free, built}
 use Rattle.ds_image.proofs.FileTrees.RootedTrees.{root-from_tree, root-used}
 use Rattle.ds_image.proofs.Spelling.Sizes.{body_is}

@@ -2,8 +2,8 @@
 use Rattle.std.proofs.Common.{◌≡◌, ℕ, ◌<◌, ◌==◌, false, slice_get}
 use Rattle.std.specs.List.{list_any}
 use Rattle.ds_image.specs.Listers.{listed_of}
-use Rattle.ds_image.specs.Parts.{Parts, part_at}
-use Rattle.ds_image.specs.Readings.{ReadsParts}
+use Rattle.ds_image_parts.specs.Parts.{Parts, part_at}
+use Rattle.ds_image_parts.specs.Readings.{ReadsParts}
 use Rattle.ds_image.proofs.guards.lister_or.Given as goal
 
 abbrev pub invariant-loop-object : goal.invariant-loop-object

@@ -3,11 +3,11 @@ use Rattle.std.proofs.Common.{◌≡◌, [], false, length, map, sym, ap, subst,
 use Rattle.std.specs.Prelude.{replicate}
 use Rattle.std.proofs.lemmas.Bool.{false≢true}
 use Rattle.std.proofs.lemmas.List.{length-replicate}
-use Rattle.ds_image.specs.Listings.{listed_by}
-use Rattle.ds_image.specs.Owned.{CanMark}
-use Rattle.ds_image.specs.Owns.{Owns}
-use Rattle.ds_image.proofs.Ownership.OwnedLists.{owned-more, owned-all, owned-not}
-use Rattle.ds_image.proofs.Ownership.Owning.{owns-none}
+use Rattle.ds_image_parts.specs.Listings.{listed_by}
+use Rattle.ds_image_tables.specs.Owned.{CanMark}
+use Rattle.ds_image_tables.specs.Owns.{Owns}
+use Rattle.ds_image_tables.proofs.Ownership.OwnedLists.{owned-more, owned-all, owned-not}
+use Rattle.ds_image_tables.proofs.Ownership.Owning.{owns-none}
 use Rattle.ds_image.proofs.owners.owns.Goals as goal
 
 pub loop-body-init : goal.loop-body-init

@@ -1,7 +1,7 @@
 -- The used descriptors so far are reached.
 use Rattle.std.proofs.Common.{◌≡◌, ℕ, ◌<◌, true, false, slice_index_or}
-use Rattle.ds_image.specs.Objects.{is_used}
-use Rattle.ds_image.specs.Parts.{part_at}
+use Rattle.ds_image_parts.specs.Objects.{is_used}
+use Rattle.ds_image_parts.specs.Parts.{part_at}
 use Rattle.ds_image.proofs.rooted.are_reached.Given as goal
 
 abbrev pub invariant-loop-object : goal.invariant-loop-object

@@ -4,12 +4,12 @@ use Rattle.std.specs.Prelude.{Option}
 use Rattle.ds_base.specs.declared.geometry.Kind.TheVariants as kinds
 use Rattle.ds_fd.specs.declared.body.Body.{Body}
 use Rattle.ds_layout.proofs.Bounds.{most_items_of}
-use Rattle.ds_image.specs.Listings.{lists_by}
-use Rattle.ds_image.specs.declared.listings.Listed.TheVariants as listed
-use Rattle.ds_image.specs.Objects.{is_used}
-use Rattle.ds_image.specs.Owns.{Owns}
-use Rattle.ds_image.specs.Parents.{AreReached}
-use Rattle.ds_image.specs.Parts.{part_at}
+use Rattle.ds_image_parts.specs.Listings.{lists_by}
+use Rattle.ds_image_parts.specs.declared.listings.Listed.TheVariants as listed
+use Rattle.ds_image_parts.specs.Objects.{is_used}
+use Rattle.ds_image_tables.specs.Owns.{Owns}
+use Rattle.ds_image_tables.specs.Parents.{AreReached}
+use Rattle.ds_image_parts.specs.Parts.{part_at}
 use Rattle.ds_image.specs.Rooted.{named_bits}
 use Rattle.ds_image.proofs.FileTrees.RootedTrees.{named-count}
 use Rattle.ds_image.proofs.Parenthood.ReachedObjects.{rooted-where_reached}

@@ -3,11 +3,11 @@ use Rattle.std.proofs.Common.{◌≡◌, ◌+◌, ◌++◌, None, length, take, 
 use Rattle.std.proofs.lemmas.List.{get_or_default}
 use Rattle.ds_base.specs.declared.geometry.Kind.TheVariants as kinds
 use Rattle.ds_layout.proofs.Bounds.{most_items_of}
-use Rattle.ds_image.specs.Listings.{named_by, lists_by}
-use Rattle.ds_image.specs.declared.listings.Listed.TheVariants as listed
+use Rattle.ds_image_parts.specs.Listings.{named_by, lists_by}
+use Rattle.ds_image_parts.specs.declared.listings.Listed.TheVariants as listed
 use Rattle.ds_image.specs.ListParents.{SetsParents, AreParentsOf}
-use Rattle.ds_image.specs.Owns.{list_of}
-use Rattle.ds_image.specs.Parts.{part_at}
+use Rattle.ds_image_tables.specs.Owns.{list_of}
+use Rattle.ds_image_parts.specs.Parts.{part_at}
 use Rattle.ds_image.specs.Rooted.{named_bits}
 use Rattle.ds_image.proofs.Parenthood.ListParents.{parents-more, written-all}
 use Rattle.ds_image.proofs.Spelling.SoundParts.{list-is}

@@ -1,7 +1,7 @@
 -- The parents are those of the directories so far.
 use Rattle.std.proofs.Common.{◌≡◌, length}
-use Rattle.ds_image.specs.Listings.{lists_by}
-use Rattle.ds_image.specs.declared.listings.Listed.TheVariants as listed
+use Rattle.ds_image_parts.specs.Listings.{lists_by}
+use Rattle.ds_image_parts.specs.declared.listings.Listed.TheVariants as listed
 use Rattle.ds_image.specs.ListParents.{AreParentsOf}
 use Rattle.ds_image.proofs.rooted.parents_of.Given as goal
 

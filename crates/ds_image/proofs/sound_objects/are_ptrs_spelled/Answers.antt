@@ -2,7 +2,7 @@ use Rattle.std.proofs.Common.{rules, refl, subst}
 use Rattle.std.specs.Prelude.{IsSome, All}
 use Rattle.std.proofs.lemmas.List.{take_all}
 use Rattle.std.proofs.lemmas.List.Elements.{All-more}
-use Rattle.ds_image.specs.Parts.{part_at}
+use Rattle.ds_image_parts.specs.Parts.{part_at}
 use Rattle.ds_image.proofs.sound_objects.are_ptrs_spelled.Goals as goal
 
 pub loop-number-preserved : goal.loop-number-preserved

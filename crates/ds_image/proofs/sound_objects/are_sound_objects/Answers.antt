@@ -1,5 +1,5 @@
 use Rattle.std.proofs.Common.{refl, subst, length, ◌≤◌}
-use Rattle.ds_image.specs.Parts.{part_at}
+use Rattle.ds_image_parts.specs.Parts.{part_at}
 use Rattle.ds_image.specs.SoundObjects.{IsSoundObject}
 use Rattle.ds_image.proofs.Spelling.ObjectSound.{all-sound}
 use Rattle.ds_image.proofs.sound_objects.are_sound_objects.Goals as goal

@@ -1,6 +1,6 @@
 -- The descriptors so far are sound.
 use Rattle.std.proofs.Common.{ℕ, ◌<◌}
-use Rattle.ds_image.specs.Parts.{part_at}
+use Rattle.ds_image_parts.specs.Parts.{part_at}
 use Rattle.ds_image.specs.SoundObjects.{IsSoundObject}
 use Rattle.ds_image.proofs.sound_objects.are_sound_objects.Given as goal
 

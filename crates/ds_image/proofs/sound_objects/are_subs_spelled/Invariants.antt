@@ -2,7 +2,7 @@
 use Rattle.std.proofs.Common.{take}
 use Rattle.std.specs.Prelude.{All}
 use Rattle.std.specs.Prelude.{IsSome}
-use Rattle.ds_image.specs.Parts.{part_at}
+use Rattle.ds_image_parts.specs.Parts.{part_at}
 use Rattle.ds_image.proofs.sound_objects.are_subs_spelled.Given as goal
 
 abbrev pub invariant-loop-number : goal.invariant-loop-number

@@ -3,8 +3,8 @@ use Rattle.std.specs.Prelude.{IsSome, IsTrue, All, ◌↔◌}
 use Rattle.std.specs.List.{flat_map}
 use Rattle.std.proofs.lemmas.Bool.{false≢true}
 use Rattle.std.proofs.lemmas.Result.{IfOk-weaker}
-use Rattle.ds_image.specs.Objects.{addresses_in, subs_of, ptrs_of, tail_of, used_rooms}
-use Rattle.ds_image.specs.Parts.{part_at}
+use Rattle.ds_image_parts.specs.Objects.{addresses_in, subs_of, ptrs_of, tail_of, used_rooms}
+use Rattle.ds_image_parts.specs.Parts.{part_at}
 use Rattle.ds_image.specs.Sound.{IsNamedRight, AreZero}
 use Rattle.ds_image.specs.SoundObjects.{AreNamesApart, count_in, IsSoundObject}
 use Rattle.ds_image.proofs.Spelling.ObjectSound.{tail-is}

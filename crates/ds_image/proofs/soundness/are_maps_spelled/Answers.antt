@@ -2,7 +2,7 @@ use Rattle.std.proofs.Common.{◌≡◌, List, Option, subst, sym, ◌∙◌}
 use Rattle.std.proofs.lemmas.Bool.{false≢true}
 use Rattle.ds_base.specs.declared.geometry.Kind.TheVariants as kinds
 use Rattle.ds_bitmap.specs.Bits.{Bitmap}
-use Rattle.ds_image.specs.Parts.{AllSpelled, maps_of}
+use Rattle.ds_image_parts.specs.Parts.{AllSpelled, maps_of}
 use Rattle.ds_image.proofs.Spelling.SoundParts.{each_kind}
 use Rattle.ds_image.proofs.soundness.are_maps_spelled.Goals as goal
 

@@ -1,5 +1,5 @@
 use Rattle.std.proofs.Common.{refl, sym, ◌∙◌}
-use Rattle.ds_image.proofs.Ownership.MarkedLists.{same-marks}
+use Rattle.ds_image_tables.proofs.Ownership.MarkedLists.{same-marks}
 use Rattle.ds_image.proofs.soundness.are_used.Goals as goal
 
 pub returns : goal.returns

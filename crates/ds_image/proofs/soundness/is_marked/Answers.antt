@@ -1,6 +1,6 @@
 use Rattle.std.proofs.Common.{Bool, List, length, ◌<◌, ◌^◌, sym, ap, ◌∙◌, subst}
 use Rattle.ds_base.specs.declared.geometry.Kind.TheVariants as kinds
-use Rattle.ds_image.specs.Parts.{bits_in}
+use Rattle.ds_image_parts.specs.Parts.{bits_in}
 use Rattle.ds_image.proofs.soundness.is_marked.Goals as goal
 
 abbrev IsShort : List Bool → Type 0

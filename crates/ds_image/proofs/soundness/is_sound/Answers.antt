@@ -2,7 +2,7 @@ use Rattle.std.proofs.Common.{sym, ◌∙◌, subst}
 use Rattle.std.specs.Prelude.{IsTrue, ◌↔◌}
 use Rattle.std.proofs.lemmas.Bool.{false≢true}
 use Rattle.std.proofs.lemmas.Result.{IfOk-weaker}
-use Rattle.ds_image.specs.Parts.{AllSpelled}
+use Rattle.ds_image_parts.specs.Parts.{AllSpelled}
 use Rattle.ds_image.specs.Sound.{IsSound}
 use Rattle.ds_image.specs.SoundObjects.{IsMarked}
 use Rattle.ds_image.proofs.Spelling.SoundParts.{short_rows, sound-from, objects-of, marked-of}

@@ -3,7 +3,7 @@ use Rattle.std.proofs.Common.{slice_get, sym, ◌∙◌, subst}
 use Rattle.std.proofs.lemmas.Bool.{false≢true}
 use Rattle.ds_base.specs.declared.geometry.Geom.{Geom}
 use Rattle.ds_tree.specs.WellFormed.{IsTree}
-use Rattle.ds_image.specs.Objects.{tree_of}
+use Rattle.ds_image_parts.specs.Objects.{tree_of}
 use Rattle.ds_image.proofs.FileTrees.ReadTrees.{none-unsound, none-unrooted}
 use Rattle.ds_image.proofs.FileTrees.TreesThatStand.{tree-from_rooted}
 use Rattle.ds_image.proofs.trees.tree_in.Goals as goal

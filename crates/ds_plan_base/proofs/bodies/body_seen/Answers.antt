@@ -1,6 +1,6 @@
 -- A sector that spells no body is odd.
 use Rattle.std.proofs.Common.{Some, sym, ap, ◌∙◌}
-use Rattle.ds_image.specs.Parts.{part_at}
+use Rattle.ds_image_parts.specs.Parts.{part_at}
 use Rattle.ds_image.specs.SeenValues.{look_of}
 use Rattle.ds_layout.specs.Places.{place_sector}
 use Rattle.ds_layout.specs.declared.places.Place.TheVariants as places

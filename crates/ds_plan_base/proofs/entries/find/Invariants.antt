@@ -1,8 +1,8 @@
 -- No sub-block so far has the name.
 use Rattle.std.proofs.Common.{◌≡◌, drop, Some}
-use Rattle.ds_image.specs.Objects.{subs_of}
-use Rattle.ds_image.specs.Parts.{Parts}
-use Rattle.ds_image.specs.Readings.{ReadsParts}
+use Rattle.ds_image_parts.specs.Objects.{subs_of}
+use Rattle.ds_image_parts.specs.Parts.{Parts}
+use Rattle.ds_image_parts.specs.Readings.{ReadsParts}
 use Rattle.ds_image.specs.SeenValues.{look_of}
 use Rattle.ds_plan_base.specs.Entries.{found_in, found_from}
 use Rattle.ds_plan_base.proofs.entries.find.Given as goal

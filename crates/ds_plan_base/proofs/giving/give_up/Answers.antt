@@ -2,7 +2,7 @@
 use Rattle.std.proofs.Common.{◌≡◌, ℕ, ◌+◌, List, [], ◌∷◌, ◌++◌, length, sym, ap, ◌∙◌, arith}
 use Rattle.ds_base.specs.declared.geometry.GeomField.TheVariants.{Clusters}
 use Rattle.ds_bitmap.specs.Bits.{Bitmap}
-use Rattle.ds_image.specs.Pending.{Pair}
+use Rattle.ds_image_parts.specs.Pending.{Pair}
 use Rattle.ds_jrnl.specs.declared.redo.Redo.{Redo}
 use Rattle.ds_layout.specs.Places.{place_sector}
 use Rattle.ds_layout.specs.declared.places.Place.TheVariants as places

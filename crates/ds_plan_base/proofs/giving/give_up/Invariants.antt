@@ -1,8 +1,8 @@
 -- The bitmaps of the clusters so far are written.
 use Rattle.std.proofs.Common.{◌≡◌, ◌+◌, ◌≤◌, length}
 use Rattle.ds_base.specs.Geometry.{clusters_of}
-use Rattle.ds_image.specs.Parts.{Parts}
-use Rattle.ds_image.specs.Readings.{ReadsParts}
+use Rattle.ds_image_parts.specs.Parts.{Parts}
+use Rattle.ds_image_parts.specs.Readings.{ReadsParts}
 use Rattle.ds_image.specs.SeenValues.{look_of}
 use Rattle.ds_plan_base.specs.Giving.{given_up}
 use Rattle.ds_plan_base.proofs.GivingSteps.{written_from}

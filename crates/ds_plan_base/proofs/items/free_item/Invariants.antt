@@ -1,8 +1,8 @@
 -- No cluster so far has a free item.
 use Rattle.std.proofs.Common.{◌≡◌, ◌-◌}
 use Rattle.ds_base.specs.Geometry.{clusters_of}
-use Rattle.ds_image.specs.Parts.{Parts}
-use Rattle.ds_image.specs.Readings.{ReadsParts}
+use Rattle.ds_image_parts.specs.Parts.{Parts}
+use Rattle.ds_image_parts.specs.Readings.{ReadsParts}
 use Rattle.ds_image.specs.SeenValues.{look_of}
 use Rattle.ds_plan_base.specs.Items.{free_item, item_from}
 use Rattle.ds_plan_base.proofs.items.free_item.Given as goal

@@ -1,7 +1,7 @@
 -- One more sub-block is known, and its entries are in the page.
 use Rattle.std.proofs.Common.{length, length-append, take, sym, ap, ◌∙◌, arith, refl}
 use Rattle.std.specs.List.{filter_map}
-use Rattle.ds_image.specs.Objects.{used_rooms}
+use Rattle.ds_image_parts.specs.Objects.{used_rooms}
 use Rattle.ds_plan_dirs.specs.Pages.{page_names}
 use Rattle.ds_plan_dirs.proofs.PageSteps.{empty_page, known_more, entries_more, page_whole}
 use Rattle.ds_plan_dirs.proofs.listing.page_of.Goals as goal

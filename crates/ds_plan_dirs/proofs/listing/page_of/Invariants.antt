@@ -1,8 +1,8 @@
 -- The sub-blocks so far are known, and their entries are counted and in the page.
 use Rattle.std.proofs.Common.{◌≡◌, ◌≤◌, ◌*◌, length, take, drop}
-use Rattle.ds_image.specs.Objects.{used_rooms}
-use Rattle.ds_image.specs.Parts.{Parts}
-use Rattle.ds_image.specs.Readings.{ReadsParts}
+use Rattle.ds_image_parts.specs.Objects.{used_rooms}
+use Rattle.ds_image_parts.specs.Parts.{Parts}
+use Rattle.ds_image_parts.specs.Readings.{ReadsParts}
 use Rattle.ds_image.specs.SeenValues.{look_of}
 use Rattle.ds_plan_dirs.specs.Pages.{page_names}
 use Rattle.ds_plan_base.specs.Entries.{subs_known}

@@ -1,9 +1,9 @@
 -- The addresses in the pointer blocks so far are found.
 use Rattle.std.proofs.Common.{◌≡◌, ◌*◌, drop, length, Some}
 use Rattle.std.specs.Prelude.{Ok}
-use Rattle.ds_image.specs.Objects.{ptrs_of}
-use Rattle.ds_image.specs.Parts.{Parts}
-use Rattle.ds_image.specs.Readings.{ReadsParts}
+use Rattle.ds_image_parts.specs.Objects.{ptrs_of}
+use Rattle.ds_image_parts.specs.Parts.{Parts}
+use Rattle.ds_image_parts.specs.Readings.{ReadsParts}
 use Rattle.ds_image.specs.SeenValues.{look_of}
 use Rattle.ds_plan_base.specs.Steps.{after}
 use Rattle.ds_plan_remove.specs.Blocks.{pointed_in, pointed_from}

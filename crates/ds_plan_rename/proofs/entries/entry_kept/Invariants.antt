@@ -3,9 +3,9 @@ use Rattle.std.proofs.Common.{◌≡◌, ◌<◌, ◌&&◌, false, drop, Some, i
 use Rattle.std.specs.Prelude.{IfSome}
 use Rattle.ds_base.specs.Geometry.{items_of}
 use Rattle.ds_base.specs.declared.geometry.Kind.TheVariants.{Sb}
-use Rattle.ds_image.specs.Objects.{subs_of}
-use Rattle.ds_image.specs.Parts.{Parts}
-use Rattle.ds_image.specs.Readings.{ReadsParts}
+use Rattle.ds_image_parts.specs.Objects.{subs_of}
+use Rattle.ds_image_parts.specs.Parts.{Parts}
+use Rattle.ds_image_parts.specs.Readings.{ReadsParts}
 use Rattle.ds_image.specs.SeenValues.{look_of}
 use Rattle.ds_plan_base.specs.Objects.{IsFoundRoom}
 use Rattle.ds_plan_base.specs.declared.entries.Found.{Found}

@@ -3,9 +3,9 @@ use Rattle.std.proofs.Common.{◌<◌, Some, None, sym, ap, subst, ◌∙◌}
 use Rattle.std.specs.Prelude.{Ok}
 use Rattle.ds_base.specs.Geometry.{items_of}
 use Rattle.ds_base.specs.declared.geometry.Kind.TheVariants.{Sb}
-use Rattle.ds_image.specs.Objects.{subs_of}
+use Rattle.ds_image_parts.specs.Objects.{subs_of}
 use Rattle.ds_image.specs.SeenValues.{look_of}
-use Rattle.ds_image.proofs.Spelling.Readings.{parts_there}
+use Rattle.ds_image_parts.proofs.Spelling.Readings.{parts_there}
 use Rattle.ds_plan_base.proofs.Known.{room-known, room-free, can-grow}
 use Rattle.ds_plan_base.proofs.NewBodies.{item-within}
 use Rattle.ds_plan_rename.proofs.renaming.moved_known.Goals as goal

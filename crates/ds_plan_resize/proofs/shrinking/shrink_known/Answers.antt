@@ -2,7 +2,7 @@
 use Rattle.std.proofs.Common.{◌≡◌, ◌≤◌, ◌%◌, ◌^◌, length, drop, sym, ap, subst, ◌∙◌, arith}
 use Rattle.ds_base.specs.declared.geometry.Kind.TheVariants.{Pb, Fb}
 use Rattle.ds_bytes.specs.Fields.{AllBelow}
-use Rattle.ds_image.specs.Pending.{Pair}
+use Rattle.ds_image_parts.specs.Pending.{Pair}
 use Rattle.ds_plan_base.specs.Giving.{given_up}
 use Rattle.ds_plan_resize.specs.Blocks.{pointers_from}
 use Rattle.ds_plan_resize.specs.Writable.{IsWritable}

@@ -2,8 +2,8 @@
 use Rattle.std.proofs.Common.{◌≡◌, ℕ, ◌+◌, ◌-◌, ◌<◌, ◌≤◌, [], length, sym, ap, subst, ◌∙◌, arith}
 use Rattle.ds_base.specs.Geometry.{clusters_of}
 use Rattle.ds_base.specs.declared.geometry.GeomField.TheVariants.{Clusters}
-use Rattle.ds_image.specs.Owned.{CanMark}
-use Rattle.ds_image.specs.Pending.{Pair}
+use Rattle.ds_image_tables.specs.Owned.{CanMark}
+use Rattle.ds_image_parts.specs.Pending.{Pair}
 use Rattle.ds_plan_base.proofs.Bitmaps.{err-handed}
 use Rattle.ds_plan_resize.specs.Blocks.{AreItems}
 use Rattle.ds_plan_resize.proofs.LowestItems.{lowest-can}

@@ -1,8 +1,8 @@
 -- So many items are taken from the clusters that were tried.
 use Rattle.std.proofs.Common.{◌≡◌, ◌-◌, ◌≤◌, length}
 use Rattle.ds_base.specs.Geometry.{clusters_of}
-use Rattle.ds_image.specs.Parts.{Parts}
-use Rattle.ds_image.specs.Readings.{ReadsParts}
+use Rattle.ds_image_parts.specs.Parts.{Parts}
+use Rattle.ds_image_parts.specs.Readings.{ReadsParts}
 use Rattle.ds_image.specs.SeenValues.{look_of}
 use Rattle.ds_plan_resize.specs.Blocks.{AreItems}
 use Rattle.ds_plan_resize.specs.Taking.{items_wanted, items_from}

@@ -2,7 +2,7 @@
 use Rattle.std.proofs.Common.{◌+◌, true, drop, sym, ap, subst, ◌∙◌, slice_get, arith}
 use Rattle.std.specs.Prelude.{slice_index}
 use Rattle.std.proofs.lemmas.Option.{slice_get_within, slice_get-get_or}
-use Rattle.ds_image.specs.Owned.{CanMark, with_marks}
+use Rattle.ds_image_tables.specs.Owned.{CanMark, with_marks}
 use Rattle.ds_plan_resize.proofs.LowestItems.{can-next, drop-step}
 use Rattle.ds_plan_resize.proofs.taking.marked.Goals as goal
 

@@ -1,6 +1,6 @@
 -- The items so far are marked, and the others can be.
 use Rattle.std.proofs.Common.{◌≡◌, true, drop}
-use Rattle.ds_image.specs.Owned.{CanMark, with_marks}
+use Rattle.ds_image_tables.specs.Owned.{CanMark, with_marks}
 use Rattle.ds_plan_resize.proofs.taking.marked.Given as goal
 
 abbrev pub invariant-loop-item : goal.invariant-loop-item

@@ -5,12 +5,12 @@ use Rattle.ds_base.specs.declared.geometry.Geom.{Geom}
 use Rattle.ds_base.specs.declared.sectors.Sector.{Sector}
 use Rattle.ds_layout.specs.Places.{total_of}
 use Rattle.ds_tree.specs.declared.trees.Tree.{Tree}
-use Rattle.ds_image.specs.BadSectors.{HasNoBad, IsLeastBad}
-use Rattle.ds_image.specs.Faults.{IsFaultOf}
-use Rattle.ds_image.specs.Logical.{IsLogical}
+use Rattle.ds_image_parts.specs.BadSectors.{HasNoBad, IsLeastBad}
+use Rattle.ds_image_parts.specs.Faults.{IsFaultOf}
+use Rattle.ds_image_parts.specs.Logical.{IsLogical}
 use Rattle.ds_image.specs.ReadTrees.{StandsForNone}
 use Rattle.ds_image.specs.Sound.{StandsFor}
-use Rattle.ds_image.specs.declared.images.ImageFault.{ImageFault}
+use Rattle.ds_image_parts.specs.declared.images.ImageFault.{ImageFault}
 use Rattle.ds_top.proofs.listing.tree_of.Goals as goal
 
 pub overlay-requires-clause-geom : goal.overlay-requires-clause-geom

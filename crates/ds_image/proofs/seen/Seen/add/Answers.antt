@@ -1,6 +1,6 @@
 -- One more sector of 512 bytes is seen.
 use Rattle.std.proofs.Common.{rules, ◌<◌, length, arith}
-use Rattle.ds_image.specs.Looks.{IsBlock}
+use Rattle.ds_image_parts.specs.Looks.{IsBlock}
 use Rattle.ds_image.specs.SeenValues.{SeenValue}
 use Rattle.ds_image.proofs.Seeing.{seen_sector}
 use Rattle.ds_image.proofs.seen.Seen.add.Goals as goal

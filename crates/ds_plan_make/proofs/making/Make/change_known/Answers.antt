@@ -1,10 +1,10 @@
 -- What is written can be spelled, and is what is known.
 use Rattle.std.proofs.Common.{◌≡◌, Some, None, sym, ap, subst, ◌∙◌}
 use Rattle.std.specs.Prelude.{Result, Ok}
-use Rattle.ds_image.specs.Objects.{subs_of}
+use Rattle.ds_image_parts.specs.Objects.{subs_of}
 use Rattle.ds_image.specs.SeenValues.{look_of}
-use Rattle.ds_image.specs.Readings.{ReadsParts}
-use Rattle.ds_image.proofs.Spelling.Readings.{parts_there}
+use Rattle.ds_image_parts.specs.Readings.{ReadsParts}
+use Rattle.ds_image_parts.proofs.Spelling.Readings.{parts_there}
 use Rattle.ds_plan_make.specs.Answers.{MakeValue, change_known}
 use Rattle.ds_plan_make.specs.declared.making.Making.{Making}
 use Rattle.ds_plan_make.proofs.Known.{grown-is}

@@ -1,7 +1,7 @@
 -- What is written can be spelled, and is what is known.
 use Rattle.std.proofs.Common.{◌≡◌, sym, ap, subst, ◌∙◌}
 use Rattle.std.specs.Prelude.{Result, Ok}
-use Rattle.ds_image.specs.Readings.{ReadsParts}
+use Rattle.ds_image_parts.specs.Readings.{ReadsParts}
 use Rattle.ds_image.specs.SeenValues.{look_of}
 use Rattle.ds_plan_base.specs.Redos.{body_pair, sub_pair}
 use Rattle.ds_plan_base.specs.declared.stops.Stop.{Stop}

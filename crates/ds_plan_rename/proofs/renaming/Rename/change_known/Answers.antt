@@ -4,7 +4,7 @@ use Rattle.std.specs.Prelude.{Result, Ok}
 use Rattle.ds_base.specs.declared.geometry.Geom.{Geom}
 use Rattle.ds_base.specs.declared.names.Key.{Key}
 use Rattle.ds_fd.specs.declared.body.Body.{Body}
-use Rattle.ds_image.specs.Parts.{Parts}
+use Rattle.ds_image_parts.specs.Parts.{Parts}
 use Rattle.ds_image.specs.SeenValues.{SeenValue}
 use Rattle.ds_plan_base.specs.Bodies.{dir_of_key}
 use Rattle.ds_plan_base.specs.declared.stops.Stop.{Stop}

@@ -1,8 +1,8 @@
 -- The part that is asked reads no more.
 use Rattle.std.proofs.Common.{◌≡◌, ℕ, subst}
 use Rattle.std.specs.List.{Contains}
-use Rattle.ds_image.specs.Parts.{Parts}
-use Rattle.ds_image.specs.Readings.{ReadsParts}
+use Rattle.ds_image_parts.specs.Parts.{Parts}
+use Rattle.ds_image_parts.specs.Readings.{ReadsParts}
 use Rattle.ds_image.specs.SeenValues.{look_of}
 use Rattle.ds_image.specs.declared.asks.Ask.TheVariants.{Read}
 use Rattle.ds_plan_reads.specs.Answers.{ReadsValue, sectors_of}

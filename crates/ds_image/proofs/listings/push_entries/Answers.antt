@@ -1,7 +1,0 @@
-use Rattle.std.proofs.Common.{arith}
-use Rattle.std.proofs.lemmas.Grind.{common_steps}
-use Rattle.std.proofs.lemmas.List.Elements.{filter_map-append}
-use Rattle.ds_image.proofs.listings.push_entries.Goals as goal
-
-pub loop-room-preserved : goal.loop-room-preserved
-loop-room-preserved c = grind (arith, common_steps, filter_map-append)

@@ -1,6 +1,0 @@
-use Rattle.std.proofs.Common.{◌∙◌}
-use Rattle.ds_image.proofs.Ownership.MarkedLists.{same-marks}
-use Rattle.ds_image.proofs.marks.Marks.are.Goals as goal
-
-pub returns : goal.returns
-returns c = same-marks _ _ _ _ (c.as_slice.ensures.value ∙ c.self.view_is) c.eq.ensures

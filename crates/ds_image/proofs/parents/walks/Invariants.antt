@@ -1,7 +1,0 @@
-use Rattle.std.proofs.Common.{◌≡◌, length}
-use Rattle.ds_image.specs.ParentWalks.{AreSettled}
-use Rattle.ds_image.proofs.parents.walks.Given as goal
-
--- the walks so far are settled
-abbrev pub invariant-loop-start : goal.invariant-loop-start
-invariant-loop-start l = (length l.leads.items ≡ l.start) × AreSettled l.parents l.seen l.leads.items

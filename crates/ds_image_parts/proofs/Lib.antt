@@ -1,0 +1,3 @@
+pub mod Journaling
+pub mod Ownership
+pub mod Spelling

@@ -1,0 +1,2 @@
+-- Items that are listed.
+pub mod ListedItems

@@ -1,0 +1,13 @@
+pub mod BadSectors
+pub mod Faults
+pub mod ImageValues
+pub mod Laying
+pub mod Listings
+pub mod Logical
+pub mod Looks
+pub mod Objects
+pub mod Parts
+pub mod Pending
+pub mod Readings
+pub mod Replaced
+pub mod SpelledParts

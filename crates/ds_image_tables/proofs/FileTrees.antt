@@ -1,0 +1,2 @@
+-- Names of objects, counted.
+pub mod CountedNames

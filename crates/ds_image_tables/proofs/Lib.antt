@@ -1,0 +1,4 @@
+pub mod FileTrees
+pub mod Ownership
+pub mod Parenthood
+pub mod Spelling

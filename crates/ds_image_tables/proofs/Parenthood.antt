@@ -1,0 +1,4 @@
+-- Parents of objects, and walks along them.
+pub mod ReachedParents
+pub mod TreeParents
+pub mod WalkingParents

@@ -1,0 +1,2 @@
+-- Where items are.
+pub mod Places
