@@ -13,10 +13,10 @@ use Rattle.ds_tree.specs.declared.scenarios.Scenario.{Scenario}
 use Rattle.ds_tree.specs.declared.variables.Spoken.{Spoken}
 use Rattle.ds_tree.specs.declared.variables.Spoken.TheVariants as spoken
 use Rattle.ds_tree.specs.Nodes.{root_key}
-use Rattle.ds_host.specs.declared.answers.HostAnswer.{HostAnswer}
-use Rattle.ds_host.specs.declared.answers.HostAnswer.TheVariants.{Tree}
-use Rattle.ds_world.specs.declared.logs.Reply.{Reply}
-use Rattle.ds_world.specs.History.{Calls}
+use Rattle.ds_conduct.specs.declared.answers.HostAnswer.{HostAnswer}
+use Rattle.ds_conduct.specs.declared.answers.HostAnswer.TheVariants.{Tree}
+use Rattle.ds_log.specs.declared.logs.Reply.{Reply}
+use Rattle.ds_log.specs.History.{Calls}
 
 -- the directives of a host
 abbrev pub list_of : Scenario → ℕ → List Directive

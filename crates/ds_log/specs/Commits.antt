@@ -1,9 +1,9 @@
 -- The commits of a log.
 use Rattle.std.specs.Prelude.{ℕ, ◌+◌, Bool, List, [], ◌∷◌, if◌then◌else◌}
 use Rattle.ds_base.specs.declared.sectors.Sector.{Sector}
-use Rattle.ds_world.specs.declared.logs.Event.{Event}
-use Rattle.ds_world.specs.Store.{after_step, store}
-use Rattle.ds_world.specs.Rules.{Rules}
+use Rattle.ds_log.specs.declared.logs.Event.{Event}
+use Rattle.ds_log.specs.Store.{after_step, store}
+use Rattle.ds_log.specs.Rules.{Rules}
 
 -- how many of the events commit a change, from these sectors on
 abbrev pub commits_from : Rules → List Sector → List Event → ℕ

@@ -3,7 +3,7 @@
 use Rattle.std.specs.Prelude.{Bool, List}
 use Rattle.ds_base.specs.declared.sectors.Sector.{Sector}
 use Rattle.ds_tree.specs.Nodes.{FileTree}
-use Rattle.ds_world.specs.declared.logs.Step.{Step}
+use Rattle.ds_log.specs.declared.logs.Step.{Step}
 
 pub record Rules : Type 1 where
   pub start : List Sector

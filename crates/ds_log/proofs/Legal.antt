@@ -5,14 +5,14 @@ use Rattle.ds_base.specs.declared.geometry.Geom.{Geom}
 use Rattle.ds_tree.specs.declared.calls.TreeReply.{TreeReply}
 use Rattle.ds_tree.specs.Nodes.{FileTree}
 use Rattle.ds_tree.specs.Steps.{Does}
-use Rattle.ds_host.specs.declared.answers.HostAnswer.{HostAnswer}
-use Rattle.ds_host.specs.declared.answers.HostAnswer.TheVariants.{Tree, Registered}
-use Rattle.ds_world.specs.declared.logs.Event.{Event}
-use Rattle.ds_world.specs.declared.logs.Reply.{Reply}
-use Rattle.ds_world.specs.Rules.{Rules}
-use Rattle.ds_world.specs.Commits.{commits}
-use Rattle.ds_world.specs.History.{Calls, Change, IsOf, IsFirstEvent, HasPlace, Stands, IsGiven, AreSteps, IsLegal}
-use Rattle.ds_world.proofs.Pushes.{length-push, get-push_old, get-push_last, get-push_cases, get-within, take-push}
+use Rattle.ds_conduct.specs.declared.answers.HostAnswer.{HostAnswer}
+use Rattle.ds_conduct.specs.declared.answers.HostAnswer.TheVariants.{Tree, Registered}
+use Rattle.ds_log.specs.declared.logs.Event.{Event}
+use Rattle.ds_log.specs.declared.logs.Reply.{Reply}
+use Rattle.ds_log.specs.Rules.{Rules}
+use Rattle.ds_log.specs.Commits.{commits}
+use Rattle.ds_log.specs.History.{Calls, Change, IsOf, IsFirstEvent, HasPlace, Stands, IsGiven, AreSteps, IsLegal}
+use Rattle.ds_log.proofs.Pushes.{length-push, get-push_old, get-push_last, get-push_cases, get-within, take-push}
 
 pub IsGiven-push : (events : List Event) (e : Event) (r : Reply) → IsGiven events r → IsGiven (events ++ e ∷ []) r
 IsGiven-push events e r given = record {

@@ -8,16 +8,16 @@ use Rattle.ds_tree.specs.declared.calls.HostCallOf.TheVariants as host_calls
 use Rattle.ds_tree.specs.declared.scenarios.Directive.{Directive}
 use Rattle.ds_tree.specs.declared.scenarios.Directive.TheVariants as directives
 use Rattle.ds_tree.specs.declared.scenarios.Scenario.{Scenario}
-use Rattle.ds_world.specs.declared.logs.Step.{Step}
-use Rattle.ds_world.specs.declared.logs.Step.TheVariants.{Local, Sent}
-use Rattle.ds_world.specs.declared.logs.Event.{Event}
-use Rattle.ds_world.specs.declared.logs.Reply.{Reply}
-use Rattle.ds_world.specs.History.{IsGiven}
-use Rattle.ds_world.specs.Scripts.{list_of}
-use Rattle.ds_world.specs.Follows.{is_reply_before, finished, generation_given, holding, held, Carries, IsNext, Follows}
-use Rattle.ds_world.proofs.Pushes.{get-push_old, get-push_last, get-push_cases, get-within, count_by-push, fold-push}
-use Rattle.ds_world.proofs.Growing.{EachEvent-push, EachEvent-map}
-use Rattle.ds_world.proofs.Legal.{IsGiven-push}
+use Rattle.ds_log.specs.declared.logs.Step.{Step}
+use Rattle.ds_log.specs.declared.logs.Step.TheVariants.{Local, Sent}
+use Rattle.ds_log.specs.declared.logs.Event.{Event}
+use Rattle.ds_log.specs.declared.logs.Reply.{Reply}
+use Rattle.ds_log.specs.History.{IsGiven}
+use Rattle.ds_log.specs.Scripts.{list_of}
+use Rattle.ds_log.specs.Follows.{is_reply_before, finished, generation_given, holding, held, Carries, IsNext, Follows}
+use Rattle.ds_log.proofs.Pushes.{get-push_old, get-push_last, get-push_cases, get-within, count_by-push, fold-push}
+use Rattle.ds_log.proofs.Growing.{EachEvent-push, EachEvent-map}
+use Rattle.ds_log.proofs.Legal.{IsGiven-push}
 
 -- a reply that isn't before an event
 pub reply_later : (host n : ℕ) (r : Reply) → n ≤ r.event → is_reply_before host n r ≡ false

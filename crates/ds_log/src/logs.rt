@@ -1,9 +1,9 @@
 //! The log of a world: its events, and the replies to calls.
 ghost use Rattle.std.specs.Prelude.{◌≡◌, ◌↔◌, ◌<◌, ◌++◌, ◌∷◌, [], IsTrue, OnOk, length};
-ghost use Rattle.ds_world.specs.Logged.{AreLogged};
+ghost use Rattle.ds_log.specs.Logged.{AreLogged};
 
 use ds_base::{Command, Gen, HostNo, NoMemory, Response, SlotNo, Tick};
-use ds_host::HostAnswer;
+use ds_conduct::HostAnswer;
 use std::alloc::Global;
 use std::marker::Model;
 
@@ -51,8 +51,8 @@ pub struct Log {
 
 impl Model for Log {
     ghost use Rattle.std.specs.Prelude.{◌-◌, min, vec_len, vec_capacity};
-    ghost use Rattle.ds_world.specs.Logged.{AreLogged};
-    ghost use Rattle.ds_world.specs.LogValues.{LogValue};
+    ghost use Rattle.ds_log.specs.Logged.{AreLogged};
+    ghost use Rattle.ds_log.specs.LogValues.{LogValue};
 
     ghost Value = { LogValue };
 
@@ -105,7 +105,7 @@ impl Log {
     }
 
     /// Makes room for one event and its reply.
-    pub(crate) fn make_room(&mut self) -> Result<(), NoMemory>
+    pub fn make_room(&mut self) -> Result<(), NoMemory>
         ensures room { OnOk result (0 < self.new.spare) }
         ensures events { self.new.events ≡ self.old.events }
         ensures replies { self.new.replies ≡ self.old.replies }
@@ -115,7 +115,7 @@ impl Log {
     }
 
     /// Adds an event, which has no reply.
-    pub(crate) fn add(&mut self, event: Event)
+    pub fn add(&mut self, event: Event)
         requires { 0 < self.old.spare }
         ensures events { self.new.events ≡ self.old.events ++ event ∷ [] }
         ensures replies { self.new.replies ≡ self.old.replies }
@@ -124,7 +124,7 @@ impl Log {
     }
 
     /// Adds an event and the reply that is given in it.
-    pub(crate) fn add_answered(&mut self, event: Event, reply: Reply)
+    pub fn add_answered(&mut self, event: Event, reply: Reply)
         requires room { 0 < self.old.spare }
         requires given { reply.event ≡ length self.old.events }
         ensures events { self.new.events ≡ self.old.events ++ event ∷ [] }

@@ -5,9 +5,9 @@ use Rattle.ds_base.specs.declared.commands.Command.TheVariants.{Swap}
 use Rattle.ds_base.specs.Device.{stored}
 use Rattle.ds_marks.specs.SlotIn.{is_idle, slot_in}
 use Rattle.ds_marks.specs.declared.slot.Slot.{Slot}
-use Rattle.ds_world.specs.declared.logs.Step.{Step}
-use Rattle.ds_world.specs.declared.logs.Step.TheVariants.{Local, Sent}
-use Rattle.ds_world.specs.declared.logs.Event.{Event}
+use Rattle.ds_log.specs.declared.logs.Step.{Step}
+use Rattle.ds_log.specs.declared.logs.Step.TheVariants.{Local, Sent}
+use Rattle.ds_log.specs.declared.logs.Event.{Event}
 
 abbrev pub after_step : List Sector → Step → List Sector
 after_step sectors Local = sectors

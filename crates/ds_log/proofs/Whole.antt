@@ -3,14 +3,14 @@ use Rattle.std.proofs.Common.{◌≡◌, ℕ, true, false, List, [], ◌∷◌, 
 use Rattle.std.specs.Prelude.{slice_get}
 use Rattle.std.proofs.lemmas.Bool.{false≢true}
 use Rattle.ds_tree.specs.Nodes.{FileTree}
-use Rattle.ds_world.specs.declared.logs.Event.{Event}
-use Rattle.ds_world.specs.declared.logs.Reply.{Reply}
-use Rattle.ds_world.specs.Rules.{Rules}
-use Rattle.ds_world.specs.Commits.{commits, commits_next}
-use Rattle.ds_world.specs.History.{Calls, Change, IsChangeOf, IsWholeOrNot}
-use Rattle.ds_world.specs.Headline.{StandsAfter}
-use Rattle.ds_world.proofs.Pushes.{length-push, get-push_old, get-push_last}
-use Rattle.ds_world.proofs.Growing.{EachEvent-push, commits-push_none, commits-push_one}
+use Rattle.ds_log.specs.declared.logs.Event.{Event}
+use Rattle.ds_log.specs.declared.logs.Reply.{Reply}
+use Rattle.ds_log.specs.Rules.{Rules}
+use Rattle.ds_log.specs.Commits.{commits, commits_next}
+use Rattle.ds_log.specs.History.{Calls, Change, IsChangeOf, IsWholeOrNot}
+use Rattle.ds_log.specs.Headline.{StandsAfter}
+use Rattle.ds_log.proofs.Pushes.{length-push, get-push_old, get-push_last}
+use Rattle.ds_log.proofs.Growing.{EachEvent-push, commits-push_none, commits-push_one}
 
 module _ (rules : Rules) (calls : Calls) where
   -- the commit that an event is has its change

@@ -3,12 +3,12 @@ use Rattle.std.proofs.Common.{◌≡◌, ℕ, zero, suc, ◌+◌, ◌≤◌, inl
 use Rattle.std.specs.Prelude.{slice_get, if◌then◌else◌}
 use Rattle.std.proofs.Math.Nat.{eq-or-lt_of_le}
 use Rattle.ds_base.specs.declared.sectors.Sector.{Sector}
-use Rattle.ds_world.specs.declared.logs.Event.{Event}
-use Rattle.ds_world.specs.Store.{after_step, store}
-use Rattle.ds_world.specs.Moments.{AtEveryMoment, EachEvent}
-use Rattle.ds_world.specs.Rules.{Rules}
-use Rattle.ds_world.specs.Commits.{commits_from, commits, commits_next}
-use Rattle.ds_world.proofs.Pushes.{length-push, get-push_cases, get-within, take-push, take-push_last, take-push_whole}
+use Rattle.ds_log.specs.declared.logs.Event.{Event}
+use Rattle.ds_log.specs.Store.{after_step, store}
+use Rattle.ds_log.specs.Moments.{AtEveryMoment, EachEvent}
+use Rattle.ds_log.specs.Rules.{Rules}
+use Rattle.ds_log.specs.Commits.{commits_from, commits, commits_next}
+use Rattle.ds_log.proofs.Pushes.{length-push, get-push_cases, get-within, take-push, take-push_last, take-push_whole}
 
 pub store-push : (sectors : List Sector) (events : List Event) (e : Event) → store sectors (events ++ e ∷ []) ≡ after_step (store sectors events) e.step
 store-push sectors [] e = refl

@@ -9,16 +9,16 @@ use Rattle.ds_tree.specs.declared.calls.HostCallOf.TheVariants as host_calls
 use Rattle.ds_tree.specs.declared.scenarios.Directive.{Directive}
 use Rattle.ds_tree.specs.declared.scenarios.Directive.TheVariants as directives
 use Rattle.ds_tree.specs.declared.scenarios.Scenario.{Scenario}
-use Rattle.ds_host.specs.declared.answers.HostAnswer.{HostAnswer}
-use Rattle.ds_host.specs.declared.answers.HostAnswer.TheVariants.{Registered}
-use Rattle.ds_world.specs.declared.logs.Step.{Step}
-use Rattle.ds_world.specs.declared.logs.Step.TheVariants.{Local, Sent}
-use Rattle.ds_world.specs.declared.logs.Event.{Event}
-use Rattle.ds_world.specs.declared.logs.Reply.{Reply}
-use Rattle.ds_world.specs.Store.{store}
-use Rattle.ds_world.specs.Moments.{EachEvent}
-use Rattle.ds_world.specs.History.{IsGiven}
-use Rattle.ds_world.specs.Scripts.{list_of, directive_at}
+use Rattle.ds_conduct.specs.declared.answers.HostAnswer.{HostAnswer}
+use Rattle.ds_conduct.specs.declared.answers.HostAnswer.TheVariants.{Registered}
+use Rattle.ds_log.specs.declared.logs.Step.{Step}
+use Rattle.ds_log.specs.declared.logs.Step.TheVariants.{Local, Sent}
+use Rattle.ds_log.specs.declared.logs.Event.{Event}
+use Rattle.ds_log.specs.declared.logs.Reply.{Reply}
+use Rattle.ds_log.specs.Store.{store}
+use Rattle.ds_log.specs.Moments.{EachEvent}
+use Rattle.ds_log.specs.History.{IsGiven}
+use Rattle.ds_log.specs.Scripts.{list_of, directive_at}
 
 abbrev pub is_reply_before : ℕ → ℕ → Reply → Bool
 is_reply_before host n r = r.host == host && nat_lt r.event n

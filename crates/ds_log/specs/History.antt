@@ -6,13 +6,13 @@ use Rattle.ds_tree.specs.declared.calls.CallOf.{CallOf}
 use Rattle.ds_tree.specs.declared.calls.TreeReply.{TreeReply}
 use Rattle.ds_tree.specs.Nodes.{FileTree, fresh_tree}
 use Rattle.ds_tree.specs.Steps.{Does}
-use Rattle.ds_host.specs.declared.answers.HostAnswer.{HostAnswer}
-use Rattle.ds_host.specs.declared.answers.HostAnswer.TheVariants.{Tree, Registered}
-use Rattle.ds_world.specs.declared.logs.Event.{Event}
-use Rattle.ds_world.specs.declared.logs.Reply.{Reply}
-use Rattle.ds_world.specs.Rules.{Rules}
-use Rattle.ds_world.specs.Commits.{commits, commits_next}
-use Rattle.ds_world.specs.Moments.{EachEvent}
+use Rattle.ds_conduct.specs.declared.answers.HostAnswer.{HostAnswer}
+use Rattle.ds_conduct.specs.declared.answers.HostAnswer.TheVariants.{Tree, Registered}
+use Rattle.ds_log.specs.declared.logs.Event.{Event}
+use Rattle.ds_log.specs.declared.logs.Reply.{Reply}
+use Rattle.ds_log.specs.Rules.{Rules}
+use Rattle.ds_log.specs.Commits.{commits, commits_next}
+use Rattle.ds_log.specs.Moments.{EachEvent}
 
 -- the tree calls that hosts make, by host and number of directive
 abbrev pub Calls : Type 0

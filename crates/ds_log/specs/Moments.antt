@@ -1,6 +1,6 @@
 -- What holds at each moment of a log.
 use Rattle.std.specs.Prelude.{◌≡◌, ℕ, ◌≤◌, List, length, take, slice_get, Some}
-use Rattle.ds_world.specs.declared.logs.Event.{Event}
+use Rattle.ds_log.specs.declared.logs.Event.{Event}
 
 -- at every moment, which is a front of the log
 abbrev pub AtEveryMoment : (List Event → Type 0) → List Event → Type 0

@@ -1,7 +1,7 @@
 -- The order of the replies of a log.
 use Rattle.std.specs.Prelude.{◌<◌, List, length, All, AllPairs}
-use Rattle.ds_world.specs.declared.logs.Event.{Event}
-use Rattle.ds_world.specs.declared.logs.Reply.{Reply}
+use Rattle.ds_log.specs.declared.logs.Event.{Event}
+use Rattle.ds_log.specs.declared.logs.Reply.{Reply}
 
 -- each reply is given in a later event than the one before
 abbrev pub AreInOrder : List Reply → Type 0

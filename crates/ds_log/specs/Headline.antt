@@ -2,13 +2,13 @@
 use Rattle.std.specs.Prelude.{◌≡◌, List, slice_get, Some}
 use Rattle.ds_base.specs.declared.geometry.Geom.{Geom}
 use Rattle.ds_tree.specs.Nodes.{FileTree}
-use Rattle.ds_world.specs.declared.logs.Event.{Event}
-use Rattle.ds_world.specs.declared.logs.Reply.{Reply}
-use Rattle.ds_world.specs.Rules.{Rules}
-use Rattle.ds_world.specs.Store.{store}
-use Rattle.ds_world.specs.Commits.{commits}
-use Rattle.ds_world.specs.Moments.{AtEveryMoment}
-use Rattle.ds_world.specs.History.{Calls, Change, IsWholeOrNot, IsLegal}
+use Rattle.ds_log.specs.declared.logs.Event.{Event}
+use Rattle.ds_log.specs.declared.logs.Reply.{Reply}
+use Rattle.ds_log.specs.Rules.{Rules}
+use Rattle.ds_log.specs.Store.{store}
+use Rattle.ds_log.specs.Commits.{commits}
+use Rattle.ds_log.specs.Moments.{AtEveryMoment}
+use Rattle.ds_log.specs.History.{Calls, Change, IsWholeOrNot, IsLegal}
 
 -- at a moment the device stands for the tree of the commits so far
 pub record StandsAfter (rules : Rules) (trees : List FileTree) (events : List Event) : Type 0 where
