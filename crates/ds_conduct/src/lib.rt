@@ -2,5 +2,7 @@
 #![tactic(auto)]
 
 mod answers;
+mod conducting;
 
 pub use answers::{HostAnswer, Spot};
+pub use conducting::Conducting;

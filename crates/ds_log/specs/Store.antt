@@ -3,7 +3,8 @@ use Rattle.std.specs.Prelude.{ℕ, ◌+◌, ◌==◌, ◌&&◌, ◌||◌, Bool, 
 use Rattle.ds_base.specs.declared.sectors.Sector.{Sector}
 use Rattle.ds_base.specs.declared.commands.Command.TheVariants.{Swap}
 use Rattle.ds_base.specs.Device.{stored}
-use Rattle.ds_marks.specs.SlotIn.{is_idle, slot_in}
+use Rattle.ds_marks.specs.SlotIn.{slot_in}
+use Rattle.ds_conduct.specs.Marks.{has_committed, has_idle}
 use Rattle.ds_marks.specs.declared.slot.Slot.{Slot}
 use Rattle.ds_log.specs.declared.logs.Step.{Step}
 use Rattle.ds_log.specs.declared.logs.Step.TheVariants.{Local, Sent}
@@ -17,16 +18,6 @@ after_step sectors (Sent under command response landed took) = if landed then st
 abbrev pub store : List Sector → List Event → List Sector
 store sectors [] = sectors
 store sectors (e ∷ events) = store (after_step sectors e.step) events
-
--- whether a slot's image has an idle journal
-abbrev pub has_idle : Option Slot → Bool
-has_idle (Some s) = is_idle s.journal
-has_idle None = false
-
--- whether a slot's image has a committed transaction
-abbrev pub has_committed : Option Slot → Bool
-has_committed (Some s) = not (is_idle s.journal)
-has_committed None = false
 
 -- whether a Swap at this sector is one of the host's own slot, and from an idle journal to a committed transaction
 abbrev pub commits_at : Option (ℕ × ℕ) → ℕ → Sector → Sector → Bool
