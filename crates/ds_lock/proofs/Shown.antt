@@ -89,7 +89,8 @@ last-lifts xs ys at s last = record {
 }
 
 -- what was shown last stays so while others are shown
-pub last-stays : (xs ys : List Exchange) (at : ℕ) (s : Sector) → IsUnshown xs at → IsLast (seen_of ys) at s → IsLast (seen_of (xs ++ ys)) at s
+pub last-stays : (xs ys : List Exchange) (at : ℕ) (s : Sector) → IsUnshown xs at → IsLast (seen_of ys) at s
+    → IsLast (seen_of (xs ++ ys)) at s
 last-stays xs ys at s none last = record {
   newer = seen_of xs ++ last.newer;
   older = last.older;
