@@ -45,6 +45,7 @@ pub trait Conducting {
 
     /// Takes the response to the command that was sent.
     fn take(&mut self, response: &Response, now: Tick) -> Option<HostAnswer>
+        requires known { (d : Digest) × agrees self.old d }
         requires sent { (command : Command) × (due self.old now ≡ nexts.Send command) × Fits command response.now }
         ensures setting { setting self.new ≡ setting self.old }
         ensures answer { (d : Digest) (command : Command) → agrees self.old d → due self.old now ≡ nexts.Send command
@@ -54,6 +55,7 @@ pub trait Conducting {
 
     /// A plain write is due too late: the call ends, or its tail does.
     fn late(&mut self, now: Tick) -> Option<HostAnswer>
+        requires known { (d : Digest) × agrees self.old d }
         requires late { (at : ℕ) × (last : ℕ) × (due self.old now ≡ nexts.Late at last) }
         ensures setting { setting self.new ≡ setting self.old }
         ensures answer { (d : Digest) → agrees self.old d → TellsLate d now result }
