@@ -1,5 +1,5 @@
 -- What a run has sent and heard at each stage, and what it sends next.
-use Rattle.std.specs.Prelude.{◌≡◌, ◌≢◌, ℕ, ◌+◌, ◌^◌, ◌<◌, Bool, true, false, List, [], Option, Some, None, ⊤}
+use Rattle.std.specs.Prelude.{◌≡◌, ◌≢◌, ℕ, ◌+◌, ◌-◌, ◌*◌, ◌^◌, ◌<◌, if◌then◌else◌, Bool, true, false, List, [], Option, Some, None, ⊤}
 use Rattle.std.specs.List.{Contains}
 use Rattle.ds_base.specs.Device.{target_of}
 use Rattle.ds_base.specs.Exchanges.{Exchange, IsLast, missed_at, seen_of}
@@ -190,3 +190,17 @@ FitsGoing g call (went.Ended end) = ⊤
 abbrev pub Leads : RegValue → Option RegEnd → List Exchange → Type 0
 Leads run None xs = Agrees run xs × (run.stage ≢ stages.Over)
 Leads run (Some end) xs = Told run.geom run.host run.call xs end × (run.stage ≡ stages.Over)
+
+-- how many commands may come once this try at a slot is over: a second try unless one missed, and two tries at each slot after it
+abbrev pub left_past : Geom → ℕ → Bool → ℕ
+left_past g slot missed = (g.slots - (slot + 1)) * 4 + (if missed then 0 else 2)
+
+-- how many commands are still to come at the most: a try at a slot is a Read and a Swap
+abbrev pub left_at : Geom → Stage → ℕ
+left_at g (stages.Looking slot missed) = left_past g slot missed + 2
+left_at g (stages.Entering slot image found missed) = left_past g slot missed + 1
+left_at g stages.Own = 1
+left_at g stages.Over = 0
+
+abbrev pub left_of : RegValue → ℕ
+left_of run = left_at run.geom run.stage
