@@ -5,7 +5,7 @@ use Rattle.std.proofs.Math.Nat.{eq-or-lt_of_le}
 use Rattle.ds_base.specs.declared.sectors.Sector.{Sector}
 use Rattle.ds_log.specs.declared.logs.Event.{Event}
 use Rattle.ds_log.specs.Store.{after_step, store}
-use Rattle.ds_log.specs.Moments.{AtEveryMoment, EachEvent}
+use Rattle.ds_log.specs.Moments.{AtEveryMoment, Each, EachEvent}
 use Rattle.ds_log.specs.Rules.{Rules}
 use Rattle.ds_log.specs.Commits.{commits_from, commits, commits_next}
 use Rattle.ds_log.proofs.Pushes.{length-push, get-push_cases, get-within, take-push, take-push_last, take-push_whole}
@@ -50,14 +50,18 @@ commits-fronts rules events m n le = fronts rules.start events m n le where
   fronts sectors (d ∷ es) (suc i) zero h = absurd (omega arith)
   fronts sectors (d ∷ es) (suc i) (suc j) h = omega (arith, fronts (after_step sectors d.step) es i j (omega arith))
 
-pub EachEvent-push : (P : List Event → Event → Type 0) (events : List Event) (e : Event) → EachEvent P events → P events e → EachEvent P (events ++ e ∷ [])
-EachEvent-push P events e each here n d at =
-    elim (get-push_cases events e d n at) [
-      | inl old ↦ let P' : List Event → Type 0 = λ past. P past d in
-          subst P' (sym (take-push events e n (omega (arith, get-within events n d old)))) (each n d old)
-      | inr last ↦ let P' : List Event → Type 0 = λ past. P past d in
-          subst P' (sym (take-push_last events e n last.0)) (subst (λ x. P events x) last.1 here)
+pub Each-push : {A : Type 0} (P : List A → A → Type 0) (xs : List A) (x : A) → Each P xs → P xs x → Each P (xs ++ x ∷ [])
+Each-push {A} P xs x each here n y at =
+    elim (get-push_cases xs x y n at) [
+      | inl old ↦ let P' : List A → Type 0 = λ past. P past y in
+          subst P' (sym (take-push xs x n (omega (arith, get-within xs n y old)))) (each n y old)
+      | inr last ↦ let P' : List A → Type 0 = λ past. P past y in
+          subst P' (sym (take-push_last xs x n last.0)) (subst (λ z. P xs z) last.1 here)
     ]
+
+pub EachEvent-push : (P : List Event → Event → Type 0) (events : List Event) (e : Event)
+    → EachEvent P events → P events e → EachEvent P (events ++ e ∷ [])
+EachEvent-push P events e each here = Each-push P events e each here
 
 -- what is known of each event gives something else of it
 pub EachEvent-map : (P Q : List Event → Event → Type 0) (events : List Event) → ((n : ℕ) (e : Event) → slice_get events n ≡ Some e → P (take n events) e → Q (take n events) e) → EachEvent P events → EachEvent Q events

@@ -18,7 +18,7 @@ use Rattle.ds_log.specs.declared.logs.Reply.{Reply}
 use Rattle.ds_log.specs.Store.{store}
 use Rattle.ds_log.specs.Moments.{EachEvent}
 use Rattle.ds_log.specs.History.{IsGiven}
-use Rattle.ds_log.specs.Scripts.{list_of, directive_at}
+use Rattle.ds_log.specs.Scripts.{list_of, directive_at, ticks_of}
 
 abbrev pub is_reply_before : ℕ → ℕ → Reply → Bool
 is_reply_before host n r = r.host == host && nat_lt r.event n
@@ -38,10 +38,6 @@ holding host n own r = if is_reply_before host n r then generation_given r.answe
 -- the slot and generation that a host holds at the event with this index
 abbrev pub held : List Reply → ℕ → ℕ → Option (ℕ × ℕ)
 held replies host n = fold (holding host n) None replies
-
-abbrev pub ticks_of : Option Directive → ℕ
-ticks_of (Some (directives.Tick ticks)) = ticks
-ticks_of _ = 0
 
 -- the clock after these events
 abbrev pub clock : Scenario → List Event → ℕ
