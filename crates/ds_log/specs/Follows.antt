@@ -51,7 +51,8 @@ abbrev pub is_event_of : ℕ → ℕ → Event → Bool
 is_event_of host directive e = e.host == host && e.directive == directive
 
 -- a command of a call, sent under the generation held, which lands and answers as the device does
-pub record IsCommand (start : List Sector) (replies : List Reply) (past : List Event) (e : Event) (under : Option (ℕ × ℕ)) (command : Command) (response : Response) (landed took : Bool) : Type 0 where
+pub record IsCommand (start : List Sector) (replies : List Reply) (past : List Event) (e : Event) (under : Option (ℕ × ℕ))
+    (command : Command) (response : Response) (landed took : Bool) : Type 0 where
   pub holds : under ≡ held replies e.host (length past)
   pub lands : landed ≡ true
   pub answers : Answers (store start past) command response
@@ -93,7 +94,8 @@ NoneOf host events = All (λ e. e.host ≡ host → ⊥) events
 -- from this host on, so many hosts make all their turns, one host after another
 abbrev pub InDrain : ℕ → ℕ → List Event → Type 0
 InDrain host zero events = events ≡ []
-InDrain host (suc left) events = (n : ℕ) × AreOf host (take n events) × NoneOf host (drop n events) × InDrain (host + 1) left (drop n events)
+InDrain host (suc left) events =
+    (n : ℕ) × AreOf host (take n events) × NoneOf host (drop n events) × InDrain (host + 1) left (drop n events)
 
 -- the order of a replay of so many hosts that never rest: each step line gives a host so many turns, fewer only where its
 -- list ends; then the hosts make the turns that are left, one host after another

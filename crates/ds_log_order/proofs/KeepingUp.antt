@@ -30,7 +30,7 @@ use Rattle.ds_log_order.specs.declared.progress.Mark.{Mark}
 use Rattle.ds_log_order.specs.declared.progress.Progress.{Progress}
 use Rattle.ds_log_order.specs.declared.progress.Stance.{Stance}
 use Rattle.ds_log_order.proofs.Advancing.{progress-other, progress-own}
-use Rattle.ds_log_order.proofs.Ending.{few-left, turns-fall}
+use Rattle.ds_log_order.proofs.Ending.{few-left, next-within, turns-fall}
 use Rattle.ds_log_order.proofs.Telling.{with_reply}
 
 in-set_same : (kept : List Progress) (i : ℕ) (p : Progress) → i < length kept → progress_in (set kept i p) i ≡ p
@@ -51,19 +51,23 @@ call-few list p mark true ends few = omega arith
 call-few list p mark false true few = omega arith
 call-few list p mark false false few = omega (arith, few refl)
 
-advance-few : (facts : HostFacts) (start : List Sector) (past : List Told) (list : List Directive) (p : Progress) (t : Told) (d : Directive) (mark : Mark)
+advance-few : (facts : HostFacts) (start : List Sector) (past : List Told) (list : List Directive) (p : Progress) (t : Told) (d : Directive)
+    (mark : Mark)
     → Carries facts start past p t mark.ends d → (advance list (Some d) p mark).sent ≤ 4096
-advance-few facts start past list p t (directives.Call call bind) mark is = call-few list p mark mark.dies mark.ends (few-left facts start past p t mark.ends t.event.step is.0)
+advance-few facts start past list p t (directives.Call call bind) mark is =
+    call-few list p mark mark.dies mark.ends (few-left facts start past p t mark.ends t.event.step is.0)
 advance-few facts start past list p t directives.Die mark is = omega arith
 advance-few facts start past list p t _ mark is = omega arith
 
 -- the marks of a directive that isn't a call tell nothing
-pub local-advance : (list : List Directive) (d : Directive) (p : Progress) (m n : Mark) → is_call d ≡ false → advance list (Some d) p m ≡ advance list (Some d) p n
+pub local-advance : (list : List Directive) (d : Directive) (p : Progress) (m n : Mark) → is_call d ≡ false
+    → advance list (Some d) p m ≡ advance list (Some d) p n
 local-advance list (directives.Call call bind) p m n no_call = absurd cc
 local-advance list directives.Die p m n no_call = refl
 local-advance list _ p m n no_call = refl
 
-local-carries : (facts : HostFacts) (start : List Sector) (past : List Told) (p : Progress) (e : Event) (ends : Bool) (d : Directive) → is_call d ≡ false → e.step ≡ Local → e.dies ≡ is_death d
+local-carries : (facts : HostFacts) (start : List Sector) (past : List Told) (p : Progress) (e : Event) (ends : Bool) (d : Directive)
+    → is_call d ≡ false → e.step ≡ Local → e.dies ≡ is_death d
     → Carries facts start past p (with_reply e None) ends d
 local-carries facts start past p e ends (directives.Call call bind) no_call step dies = absurd cc
 local-carries facts start past p e ends directives.Die no_call step dies = (step, refl, dies)
@@ -71,7 +75,8 @@ local-carries facts start past p e ends _ no_call step dies = (step, refl, dies)
 
 module _ (facts : HostFacts) (start : List Sector) (s : Scenario) where
   clock-push : (past : List Told) (t : Told) → IsNext facts start s past t
-      → clock s (past ++ t ∷ []) ≡ clock s past + ticks_of (slice_get (list_at s.hosts t.event.host) (progress facts s.hosts t.event.host past).finished)
+      → clock s (past ++ t ∷ [])
+      ≡ clock s past + ticks_of (slice_get (list_at s.hosts t.event.host) (progress facts s.hosts t.event.host past).finished)
   clock-push past t next =
       sum_by-push (λ (u : Told). ticks_of (directive_at s u.event.host u.event.directive)) past t
       ∙ ap (λ (n : ℕ). clock s past + ticks_of (directive_at s t.event.host n)) next.number
@@ -81,10 +86,12 @@ module _ (facts : HostFacts) (start : List Sector) (s : Scenario) where
     same_kept = λ i h. keeps.each h i
 
     -- what the kept progress tells of a host's next turn is so
-    pub stands-kept : (host : ℕ) (stance : Stance) → Stands s.hosts (progress_in kept) host stance → Stands s.hosts (progresses facts s.hosts log) host stance
+    pub stands-kept : (host : ℕ) (stance : Stance) → Stands s.hosts (progress_in kept) host stance
+        → Stands s.hosts (progresses facts s.hosts log) host stance
     stands-kept host stance is = subst (λ (at : ℕ → Progress). Stands s.hosts at host stance) same_kept is
 
-    pub going-kept : (host : ℕ) (d : Directive) → IsGoing s.hosts (progress_in kept) host d → IsGoing s.hosts (progresses facts s.hosts log) host d
+    pub going-kept : (host : ℕ) (d : Directive) → IsGoing s.hosts (progress_in kept) host d
+        → IsGoing s.hosts (progresses facts s.hosts log) host d
     going-kept host d is = subst (λ (at : ℕ → Progress). IsGoing s.hosts at host d) same_kept is
 
     -- after an event
@@ -105,42 +112,58 @@ module _ (facts : HostFacts) (start : List Sector) (s : Scenario) where
             (subst (λ (r : Progress). r.sent ≤ 4096) (sym (in-set_same kept t.event.host after within ∙ after_is)) few_after)
         | inr differs ↦ subst (λ (r : Progress). r.sent ≤ 4096) (sym (in-set_other kept t.event.host h after differs)) (keeps.few h)
       ];
-      ticked = ticks ∙ (ap (λ (n : ℕ). n + ticks_of here) keeps.ticked ∙ ap (λ (n : ℕ). clock s log + n) same_ticks ∙ sym (clock-push log t next));
+      ticked = ticks
+          ∙ (ap (λ (n : ℕ). n + ticks_of here) keeps.ticked ∙ ap (λ (n : ℕ). clock s log + n) same_ticks ∙ sym (clock-push log t next));
       room = omega (arith, keeps.room, turns-fall facts start s log t next, small, ticks);
     } where
       list : List Directive
       list = list_at s.hosts t.event.host
+
       p : Progress
       p = progress_in kept t.event.host
+
       q : Progress
       q = progress facts s.hosts t.event.host log
+
       here : Option Directive
       here = slice_get list p.finished
+
       same_p : p ≡ q
       same_p = keeps.each t.event.host
+
       same_ticks : ticks_of here ≡ ticks_of (slice_get list q.finished)
       same_ticks = ap (λ (r : Progress). ticks_of (slice_get list r.finished)) same_p
+
       after_is : after ≡ moved_own facts s.hosts t.event.host log q t
       after_is = moves ∙ ap (λ (r : Progress). moved_own facts s.hosts t.event.host log r t) same_p
+
       few_after : (moved_own facts s.hosts t.event.host log q t).sent ≤ 4096
       few_after = subst (λ (d : Option Directive). (advance list d q (mark_of facts log q t)).sent ≤ 4096) (sym next.going.is_due)
           (advance-few facts start log list q t next.directive (mark_of facts log q t) next.carries)
 
   -- a directive that isn't a call is carried out in one event
-  pub local-next : (log : List Told) (e : Event) (d : Directive) → IsGoing s.hosts (progresses facts s.hosts log) e.host d → is_call d ≡ false
-      → e.directive ≡ suc (progress facts s.hosts e.host log).finished → e.at ≡ clock s log → e.step ≡ Local → e.dies ≡ is_death d → IsNext facts start s log (with_reply e None)
+  pub local-next : (log : List Told) (e : Event) (d : Directive) → IsGoing s.hosts (progresses facts s.hosts log) e.host d
+      → is_call d ≡ false
+      → e.directive ≡ suc (progress facts s.hosts e.host log).finished → e.at ≡ clock s log → e.step ≡ Local → e.dies ≡ is_death d
+      → IsNext facts start s log (with_reply e None)
   local-next log e d going no_call number at step dies = record {
     directive = d;
     going = going;
     number = number;
-    carries = local-carries facts start log (progress facts s.hosts e.host log) e (facts.rests (log ++ with_reply e None ∷ []) e.host) d no_call step dies;
+    carries = local-carries facts start log (progress facts s.hosts e.host log) e
+        (facts.rests (log ++ with_reply e None ∷ []) e.host) d no_call step dies;
     tick = at;
     replied = λ r is. absurd cc;
   }
 
   -- a host that rests or has ended has no next event
-  pub next-goes : (log : List Told) (t : Told) → IsNext facts start s log t → IsStill s.hosts (progresses facts s.hosts log) t.event.host → ⊥
-  next-goes log t next (inl ended) = omega (arith, ended, slice_get_within (list_at s.hosts t.event.host) (progress facts s.hosts t.event.host log).finished next.directive next.going.is_due)
+  pub next-goes : (log : List Told) (t : Told) → IsNext facts start s log t → IsStill s.hosts (progresses facts s.hosts log) t.event.host
+      → ⊥
+  next-goes log t next (inl ended) = omega (arith, ended, next-within facts start s log t next)
   next-goes log t next (inr rests) =
-      omega (arith, rests.ahead, next.going.met rests.other rests.number
-        (ap (λ (d : Option Directive). waits d (progress facts s.hosts t.event.host log).arm) (sym next.going.is_due) ∙ rests.for_it))
+      omega (
+        arith,
+        rests.ahead,
+        next.going.met rests.other rests.number
+            (ap (λ (d : Option Directive). waits d (progress facts s.hosts t.event.host log).arm) (sym next.going.is_due) ∙ rests.for_it),
+      )

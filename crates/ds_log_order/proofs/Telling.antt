@@ -27,7 +27,8 @@ reply_at-none : (replies : List Reply) (n : ℕ) → AreBefore replies n → rep
 reply_at-none [] n before = refl
 reply_at-none (q ∷ replies) n before = elim (eqb_tells q.event n) [
   | inl same ↦ absurd (omega (arith, before 0 q refl, same.1))
-  | inr differs ↦ choose {A = Option Reply} (q.event == n) (Some q) (reply_at replies n) differs.0 ∙ reply_at-none replies n (λ i r at. before (suc i) r at)
+  | inr differs ↦ choose {A = Option Reply} (q.event == n) (Some q) (reply_at replies n) differs.0
+      ∙ reply_at-none replies n (λ i r at. before (suc i) r at)
 ]
 
 reply_at-last : (replies : List Reply) (r : Reply) (n : ℕ) → AreBefore replies n → r.event ≡ n → reply_at (replies ++ r ∷ []) n ≡ Some r
@@ -37,7 +38,8 @@ reply_at-last [] r n before e = elim (eqb_tells r.event n) [
 ]
 reply_at-last (q ∷ replies) r n before e = elim (eqb_tells q.event n) [
   | inl same ↦ absurd (omega (arith, before 0 q refl, same.1))
-  | inr differs ↦ choose {A = Option Reply} (q.event == n) (Some q) (reply_at (replies ++ r ∷ []) n) differs.0 ∙ reply_at-last replies r n (λ i s at. before (suc i) s at) e
+  | inr differs ↦ choose {A = Option Reply} (q.event == n) (Some q) (reply_at (replies ++ r ∷ []) n) differs.0
+      ∙ reply_at-last replies r n (λ i s at. before (suc i) s at) e
 ]
 
 told_from-push : (replies : List Reply) (n m : ℕ) (events : List Event) (e : Event) → m ≡ n + length events
@@ -45,14 +47,17 @@ told_from-push : (replies : List Reply) (n m : ℕ) (events : List Event) (e : E
 told_from-push replies n m [] e same =
     ap (λ (k : ℕ). let t : Told = record { event = e; reply = reply_at replies k } in t ∷ []) (let p : n ≡ m = omega arith in p)
 told_from-push replies n m (d ∷ events) e same =
-    ap (λ (ts : List Told). let t : Told = record { event = d; reply = reply_at replies n } in t ∷ ts) (told_from-push replies (suc n) m events e (omega arith))
+    ap (λ (ts : List Told). let t : Told = record { event = d; reply = reply_at replies n } in t ∷ ts)
+    (told_from-push replies (suc n) m events e (omega arith))
 
 told_from-reply : (replies : List Reply) (r : Reply) (n : ℕ) (events : List Event) → n + length events ≤ r.event
     → told_from (replies ++ r ∷ []) n events ≡ told_from replies n events
 told_from-reply replies r n [] later = refl
 told_from-reply replies r n (d ∷ events) later =
-    ap (λ (o : Option Reply). let t : Told = record { event = d; reply = o } in t ∷ told_from (replies ++ r ∷ []) (suc n) events) (reply_at-other replies r n (λ same. omega arith))
-    ∙ ap (λ (ts : List Told). let t : Told = record { event = d; reply = reply_at replies n } in t ∷ ts) (told_from-reply replies r (suc n) events (omega arith))
+    ap (λ (o : Option Reply). let t : Told = record { event = d; reply = o } in t ∷ told_from (replies ++ r ∷ []) (suc n) events)
+    (reply_at-other replies r n (λ same. omega arith))
+    ∙ ap (λ (ts : List Told). let t : Told = record { event = d; reply = reply_at replies n } in t ∷ ts)
+    (told_from-reply replies r (suc n) events (omega arith))
 
 told-length_from : (replies : List Reply) (n : ℕ) (events : List Event) → length (told_from replies n events) ≡ length events
 told-length_from replies n [] = refl
@@ -72,11 +77,13 @@ told-event events replies e before =
     ∙ ap (λ (o : Option Reply). told events replies ++ with_reply e o ∷ []) (reply_at-none replies (length events) before)
 
 -- an event that gives a reply
-pub told-answered : (events : List Event) (replies : List Reply) (e : Event) (r : Reply) → AreBefore replies (length events) → r.event ≡ length events
+pub told-answered : (events : List Event) (replies : List Reply) (e : Event) (r : Reply) → AreBefore replies (length events)
+    → r.event ≡ length events
     → told (events ++ e ∷ []) (replies ++ r ∷ []) ≡ told events replies ++ with_reply e (Some r) ∷ []
 told-answered events replies e r before here =
     told_from-push (replies ++ r ∷ []) 0 (length events) events e (omega arith)
-    ∙ ap (λ (o : Option Reply). told events (replies ++ r ∷ []) ++ with_reply e o ∷ []) (reply_at-last replies r (length events) before here)
+    ∙ ap (λ (o : Option Reply). told events (replies ++ r ∷ []) ++ with_reply e o ∷ [])
+    (reply_at-last replies r (length events) before here)
     ∙ ap (λ (ts : List Told). ts ++ with_reply e (Some r) ∷ []) (told_from-reply replies r 0 events (omega arith))
 
 module _ (facts : HostFacts) (start : List Sector) (s : Scenario) where
@@ -89,7 +96,8 @@ module _ (facts : HostFacts) (start : List Sector) (s : Scenario) where
     rising = follows.rising;
   }
 
-  pub follows-answered : (events : List Event) (replies : List Reply) (e : Event) (r : Reply) → r.event ≡ length events → Follows facts start s events replies
+  pub follows-answered : (events : List Event) (replies : List Reply) (e : Event) (r : Reply) → r.event ≡ length events
+      → Follows facts start s events replies
       → IsNext facts start s (told events replies) (with_reply e (Some r)) → Follows facts start s (events ++ e ∷ []) (replies ++ r ∷ [])
   follows-answered events replies e r here follows next = record {
     next = subst (IsFollowing facts start s) (sym (told-answered events replies e r follows.given here))

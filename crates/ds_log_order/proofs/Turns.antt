@@ -20,12 +20,14 @@ use Rattle.ds_log_order.proofs.Ending.{turns-fall}
 use Rattle.ds_log_order.proofs.Waiting.{all_ended}
 
 module _ (facts : HostFacts) (start : List Sector) (s : Scenario) where
-  pub turned-is_turn : (host : ℕ) (moved : Moved) (past after : List Told) → Turned facts start s host moved past after → IsTurn facts s.hosts host past after
+  pub turned-is_turn : (host : ℕ) (moved : Moved) (past after : List Told) → Turned facts start s host moved past after
+      → IsTurn facts s.hosts host past after
   turned-is_turn host moves.Event past after (t, own, next, e) = Moves t own e
   turned-is_turn host moves.Resting past after (rests, e) = Stays (inr rests) e
   turned-is_turn host moves.Ended past after (ended, e) = Stays (inl ended) e
 
-  pub turned-follows : (host : ℕ) (moved : Moved) (past after : List Told) → Turned facts start s host moved past after → IsFollowing facts start s past → IsFollowing facts start s after
+  pub turned-follows : (host : ℕ) (moved : Moved) (past after : List Told) → Turned facts start s host moved past after
+      → IsFollowing facts start s past → IsFollowing facts start s after
   turned-follows host moves.Event past after (t, own, next, e) follows =
       subst (IsFollowing facts start s) (sym e) (Each-push (IsNext facts start s) past t follows next)
   turned-follows host moves.Resting past after (rests, e) follows = subst (IsFollowing facts start s) (sym e) follows
@@ -38,7 +40,8 @@ module _ (facts : HostFacts) (start : List Sector) (s : Scenario) where
   pub turned_more : (host count : ℕ) (moved : Moved) (before between after : List Told) → HasTurned facts start s host count before between
       → Turned facts start s host moved between after → HasTurned facts start s host (count + 1) before after
   turned_more host count moved before between after so_far is = record {
-    turns = subst (λ (n : ℕ). Turns facts s.hosts host n before after) (sym (add-one count)) (between, so_far.turns, turned-is_turn host moved between after is);
+    turns = subst (λ (n : ℕ). Turns facts s.hosts host n before after) (sym (add-one count))
+        (between, so_far.turns, turned-is_turn host moved between after is);
     follows = λ f. turned-follows host moved between after is (so_far.follows f);
   }
 
@@ -46,8 +49,10 @@ module _ (facts : HostFacts) (start : List Sector) (s : Scenario) where
   pub stepped_none : (steps : List (ℕ × ℕ)) (log : List Told) → HasStepped facts start s steps 0 log log
   stepped_none steps log = record { lines = refl; follows = λ f. f }
 
-  pub stepped_more : (steps : List (ℕ × ℕ)) (count : ℕ) (step : ℕ × ℕ) (before between after : List Told) → slice_get steps count ≡ Some step
-      → HasStepped facts start s steps count before between → HasTurned facts start s step.0 step.1 between after → HasStepped facts start s steps (count + 1) before after
+  pub stepped_more : (steps : List (ℕ × ℕ)) (count : ℕ) (step : ℕ × ℕ) (before between after : List Told)
+      → slice_get steps count ≡ Some step
+      → HasStepped facts start s steps count before between → HasTurned facts start s step.0 step.1 between after
+      → HasStepped facts start s steps (count + 1) before after
   stepped_more steps count step before between after here so_far is = record {
     lines = subst (λ (n : ℕ). StepLines facts s.hosts steps n before after) (sym (add-one count))
         (between, so_far.lines, subst (λ (o : Option (ℕ × ℕ)). TurnsOf facts s.hosts o between after) (sym here) is.turns);
@@ -57,7 +62,8 @@ module _ (facts : HostFacts) (start : List Sector) (s : Scenario) where
   goes-same : (log : List Told) → GoesOn facts start s false log log
   goes-same log = record { follows = λ f. f; same = λ e. refl; fewer = λ e. absurd cc }
 
-  goes-on : (one two any : Bool) (before between after : List Told) → (any ≡ false → (one ≡ false) × (two ≡ false)) → GoesOn facts start s one before between → GoesOn facts start s two between after
+  goes-on : (one two any : Bool) (before between after : List Told) → (any ≡ false → (one ≡ false) × (two ≡ false))
+      → GoesOn facts start s one before between → GoesOn facts start s two between after
       → (any ≡ true → (one ≡ true) ⊎ (two ≡ true)) → GoesOn facts start s any before after
   goes-on one two any before between after none first second some = record {
     follows = λ f. second.follows (first.follows f);
@@ -87,17 +93,20 @@ module _ (facts : HostFacts) (start : List Sector) (s : Scenario) where
     fewer = λ e. omega (arith, turns-fall facts start s past is.0 is.2, ap (turns_in facts s) is.3);
   }
 
-  pub moved_more : (host : ℕ) (any : Bool) (before between after : List Told) → HasMoved host any before between → Turned facts start s host moves.Event between after → HasMoved host true before after
+  pub moved_more : (host : ℕ) (any : Bool) (before between after : List Told) → HasMoved host any before between
+      → Turned facts start s host moves.Event between after → HasMoved host true before after
   moved_more host any before between after so_far is = record {
     count = so_far.count + 1;
     turned = turned_more host so_far.count moves.Event before between after so_far.turned is;
     goes = goes-on any true true before between after (λ e. absurd cc) so_far.goes (event-goes host between after is) (λ e. inr refl);
   }
 
-  pub moved_falls : (host : ℕ) (past after : List Told) → Turned facts start s host moves.Event past after → turns_in facts s after < turns_in facts s past
+  pub moved_falls : (host : ℕ) (past after : List Told) → Turned facts start s host moves.Event past after
+      → turns_in facts s after < turns_in facts s past
   moved_falls host past after is = (event-goes host past after is).fewer refl
 
-  moved-still : (host : ℕ) (any : Bool) (before between after : List Told) → HasMoved host any before between → IsStill s.hosts (progresses facts s.hosts between) host → after ≡ between → HasRun facts start s host any before after
+  moved-still : (host : ℕ) (any : Bool) (before between after : List Told) → HasMoved host any before between
+      → IsStill s.hosts (progresses facts s.hosts between) host → after ≡ between → HasRun facts start s host any before after
   moved-still host any before between after so_far still e = record {
     runs = record {
       count = so_far.count;
@@ -107,33 +116,41 @@ module _ (facts : HostFacts) (start : List Sector) (s : Scenario) where
     goes = subst (λ (l : List Told). GoesOn facts start s any before l) (sym e) so_far.goes;
   }
 
-  pub moved_rests : (host : ℕ) (any : Bool) (before between after : List Told) → HasMoved host any before between → Turned facts start s host moves.Resting between after → HasRun facts start s host any before after
+  pub moved_rests : (host : ℕ) (any : Bool) (before between after : List Told) → HasMoved host any before between
+      → Turned facts start s host moves.Resting between after → HasRun facts start s host any before after
   moved_rests host any before between after so_far is = moved-still host any before between after so_far (inr is.0) is.1
 
-  pub moved_ends : (host : ℕ) (any : Bool) (before between after : List Told) → HasMoved host any before between → Turned facts start s host moves.Ended between after → HasRun facts start s host any before after
+  pub moved_ends : (host : ℕ) (any : Bool) (before between after : List Told) → HasMoved host any before between
+      → Turned facts start s host moves.Ended between after → HasRun facts start s host any before after
   moved_ends host any before between after so_far is = moved-still host any before between after so_far (inl is.0) is.1
 
   -- a round
   pub gone_none : (log : List Told) → HasGone facts start s 0 false log log
   gone_none log = record { round = refl; goes = goes-same log; still = λ e host below. absurd (omega arith) }
 
-  gone-round : (host : ℕ) (any one : Bool) (before between after : List Told) → HasGone facts start s host any before between → HasRun facts start s host one between after → Round facts s.hosts (host + 1) before after
-  gone-round host any one before between after so_far is = subst (λ (n : ℕ). Round facts s.hosts n before after) (sym (add-one host)) (between, so_far.round, is.runs)
+  gone-round : (host : ℕ) (any one : Bool) (before between after : List Told) → HasGone facts start s host any before between
+      → HasRun facts start s host one between after → Round facts s.hosts (host + 1) before after
+  gone-round host any one before between after so_far is =
+      subst (λ (n : ℕ). Round facts s.hosts n before after) (sym (add-one host)) (between, so_far.round, is.runs)
 
-  pub gone_moved : (host : ℕ) (any : Bool) (before between after : List Told) → HasGone facts start s host any before between → HasRun facts start s host true between after → HasGone facts start s (host + 1) true before after
+  pub gone_moved : (host : ℕ) (any : Bool) (before between after : List Told) → HasGone facts start s host any before between
+      → HasRun facts start s host true between after → HasGone facts start s (host + 1) true before after
   gone_moved host any before between after so_far is = record {
     round = gone-round host any true before between after so_far is;
     goes = goes-on any true true before between after (λ e. absurd cc) so_far.goes is.goes (λ e. inr refl);
     still = λ e. absurd cc;
   }
 
-  pub gone_still : (host : ℕ) (any : Bool) (before between after : List Told) → HasGone facts start s host any before between → HasRun facts start s host false between after → HasGone facts start s (host + 1) any before after
+  pub gone_still : (host : ℕ) (any : Bool) (before between after : List Told) → HasGone facts start s host any before between
+      → HasRun facts start s host false between after → HasGone facts start s (host + 1) any before after
   gone_still host any before between after so_far is = record {
     round = gone-round host any false before between after so_far is;
     goes = goes-on any false any before between after (λ e. (e, refl)) so_far.goes is.goes (λ e. inl e);
     still = λ e h below. elim (cases_lt h host) [
-      | inl before_it ↦ subst (λ (l : List Told). IsStill s.hosts (progresses facts s.hosts l) h) (sym (is.goes.same refl)) (so_far.still e h before_it)
-      | inr here ↦ let same : host ≡ h = omega arith in subst (λ (k : ℕ). IsStill s.hosts (progresses facts s.hosts after) k) same is.runs.still
+      | inl before_it ↦ subst (λ (l : List Told). IsStill s.hosts (progresses facts s.hosts l) h) (sym (is.goes.same refl))
+          (so_far.still e h before_it)
+      | inr here ↦ let same : host ≡ h = omega arith in
+          subst (λ (k : ℕ). IsStill s.hosts (progresses facts s.hosts after) k) same is.runs.still
     ];
   }
 
@@ -145,13 +162,15 @@ module _ (facts : HostFacts) (start : List Sector) (s : Scenario) where
   pub rounds_none : (log : List Told) → HasGoneRounds log log
   rounds_none log = record { rounds = 0; gone = record { drain = refl; follows = λ f. f } }
 
-  pub rounds_more : (any : Bool) (before between after : List Told) → HasGoneRounds before between → HasGone facts start s (length s.hosts) any between after → HasGoneRounds before after
+  pub rounds_more : (any : Bool) (before between after : List Told) → HasGoneRounds before between
+      → HasGone facts start s (length s.hosts) any between after → HasGoneRounds before after
   rounds_more any before between after so_far is = record {
     rounds = suc so_far.rounds;
     gone = record { drain = (between, so_far.gone.drain, is.round); follows = λ f. is.goes.follows (so_far.gone.follows f) };
   }
 
-  pub rounds_end : PassesAll s.hosts → (before between after : List Told) → HasGoneRounds before between → HasGone facts start s (length s.hosts) false between after → HasDrained facts start s before after
+  pub rounds_end : PassesAll s.hosts → (before between after : List Told) → HasGoneRounds before between
+      → HasGone facts start s (length s.hosts) false between after → HasDrained facts start s before after
   rounds_end passes before between after so_far is =
       let all = rounds_more false before between after so_far is in
       record {
@@ -165,10 +184,13 @@ module _ (facts : HostFacts) (start : List Sector) (s : Scenario) where
   none-follows : IsFollowing facts start s []
   none-follows n t at = absurd cc
 
-  pub replay-follows : (before between after : List Told) → before ≡ [] → HasStepped facts start s s.steps (length s.steps) before between → HasDrained facts start s between after → IsFollowing facts start s after
-  replay-follows before between after e stepped drained = drained.follows (stepped.follows (subst (IsFollowing facts start s) (sym e) none-follows))
+  pub replay-follows : (before between after : List Told) → before ≡ [] → HasStepped facts start s s.steps (length s.steps) before between
+      → HasDrained facts start s between after → IsFollowing facts start s after
+  replay-follows before between after e stepped drained =
+      drained.follows (stepped.follows (subst (IsFollowing facts start s) (sym e) none-follows))
 
-  pub replay-order : (before between after : List Told) → before ≡ [] → HasStepped facts start s s.steps (length s.steps) before between → HasDrained facts start s between after → InReplayOrder facts s after
+  pub replay-order : (before between after : List Told) → before ≡ [] → HasStepped facts start s s.steps (length s.steps) before between
+      → HasDrained facts start s between after → InReplayOrder facts s after
   replay-order before between after e stepped drained = record {
     stepped = between;
     steps = subst (λ (l : List Told). StepLines facts s.hosts s.steps (length s.steps) l between) e stepped.lines;

@@ -30,9 +30,11 @@ ArmStands before _ = Unit {0}
 abbrev Stands : List Directive → Progress → Type 0
 Stands list p = ArmStands (one_before list p.finished) p.arm
 
-arm_after-stands : (before : Option Directive) (arm : Arm) (hit done : Bool) → ArmStands before arm → ArmStands before (arm_after arm hit done)
+arm_after-stands : (before : Option Directive) (arm : Arm) (hit done : Bool) → ArmStands before arm
+    → ArmStands before (arm_after arm hit done)
 arm_after-stands before (arms.Hold point host number) hit done h =
-    elim (hit && done) as (λ (b : Bool). ArmStands before (if b then arms.Bitten host number else arms.Hold point host number)) [ true ↦ (point, h) | false ↦ h ]
+    elim (hit && done) as (λ (b : Bool). ArmStands before (if b then arms.Bitten host number else arms.Hold point host number))
+    [ true ↦ (point, h) | false ↦ h ]
 arm_after-stands before (arms.Fail point landed) hit done h =
     elim hit as (λ (b : Bool). ArmStands before (if b then arms.Nothing else arms.Fail point landed)) [ true ↦ tt | false ↦ tt ]
 arm_after-stands before (arms.Bitten host number) hit done h = h
@@ -53,7 +55,8 @@ advance-stands list (Some (directives.Hold point host number)) p mark e stands =
 advance-stands list (Some _) p mark e stands = tt
 
 -- where a host waits, its directive does
-waits-stand : (before d : Option Directive) (arm : Arm) (other number : ℕ) → ArmStands before arm → waits d arm ≡ Some (other, number) → wait_of before d ≡ Some (other, number)
+waits-stand : (before d : Option Directive) (arm : Arm) (other number : ℕ) → ArmStands before arm → waits d arm ≡ Some (other, number)
+    → wait_of before d ≡ Some (other, number)
 waits-stand before (Some (directives.Wait host n)) arm other number stands e = e
 waits-stand before (Some (directives.Call call bind)) (arms.Bitten host n) other number stands e =
     subst (λ (b : Option Directive). wait_of b (Some (directives.Call call bind)) ≡ Some (other, number)) (sym stands.1) e
@@ -69,7 +72,8 @@ pub length-past : (plans : List HostPlan) (host : ℕ) → length plans ≤ host
 length-past plans host past = ap (λ (o : Option HostPlan). length (directives_of o)) (slice_get_past plans host past)
 
 module _ (facts : HostFacts) (plans : List HostPlan) where
-  pub progress-stands : (host : ℕ) (log : List Told) → ArmStands (one_before (list_at plans host) (progress facts plans host log).finished) (progress facts plans host log).arm
+  pub progress-stands : (host : ℕ) (log : List Told)
+      → ArmStands (one_before (list_at plans host) (progress facts plans host log).finished) (progress facts plans host log).arm
   progress-stands host log = progress-keeps facts plans host (Stands (list_at plans host)) tt
       (λ past p t h. advance-stands (list_at plans host) (slice_get (list_at plans host) p.finished) p (mark_of facts past p t) refl h) log
 
@@ -83,20 +87,23 @@ module _ (facts : HostFacts) (plans : List HostPlan) where
     listed = omega (arith, rest.ahead);
   }
 
-  module _ (passes : PassesAll plans) (log : List Told) (still : (host : ℕ) → host < length plans → IsStill plans (progresses facts plans log) host) where
+  module _ (passes : PassesAll plans) (log : List Told)
+      (still : (host : ℕ) → host < length plans → IsStill plans (progresses facts plans log) host) where
     pub still_all : (host : ℕ) → IsStill plans (progresses facts plans log) host
     still_all host = elim (cases_lt host (length plans)) [
       | inl there ↦ still host there
       | inr past ↦ inl (omega (arith, length-past plans host past))
     ]
 
-    none_rests : (r host : ℕ) → passes.rank host (progress facts plans host log).finished < r → IsResting plans (progresses facts plans log) host → ⊥
+    none_rests : (r host : ℕ) → passes.rank host (progress facts plans host log).finished < r
+        → IsResting plans (progresses facts plans log) host → ⊥
     none_rests zero host low rest = omega arith
     none_rests (suc r) host low rest =
         let needs = rests-needs host log rest in
         let some = waits-some _ _ _ _ rest.for_it in
         let within : (progress facts plans host log).finished < length (list_at plans host) = slice_get_within _ _ some.0 some.1 in
-        let lower = passes.behind host (progress facts plans host log).finished rest.other (progress facts plans rest.other log).finished within needs in
+        let lower = passes.behind host (progress facts plans host log).finished rest.other
+        (progress facts plans rest.other log).finished within needs in
         elim (still_all rest.other) [
           | inl ended ↦ omega (arith, rest.ahead, ended)
           | inr rests ↦ none_rests r rest.other (omega (arith, lower.1)) rests

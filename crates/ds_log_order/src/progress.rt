@@ -232,7 +232,9 @@ fn after_event(arm: &Arm, hit: bool, done: bool) -> Arm
 {
     match *arm {
         Arm::Hold {
-            host, directive, ..
+            host,
+            directive,
+            ..
         } if hit && done => Arm::Bitten { host, directive },
         Arm::Fail { .. } if hit => Arm::Nothing,
         _ => *arm,

@@ -137,11 +137,7 @@ fn drain<W: Replayed>(world: &mut W, scenario: &Scenario, hosts: HostNo) -> Resu
 }
 
 /// Replays a scenario to the end of every host's list.
-pub fn drive<W: Replayed>(
-    world: &mut W,
-    scenario: &Scenario,
-    hosts: HostNo,
-) -> Result<(), NoMemory>
+pub fn drive<W: Replayed>(world: &mut W, scenario: &Scenario, hosts: HostNo) -> Result<(), NoMemory>
     requires scenario { W.scenario world.old ≡ scenario.now }
     requires fresh { W.log world.old ≡ [] }
     requires hosts { hosts ≡ length scenario.now.hosts }

@@ -12,5 +12,5 @@ loop-preserved g c = record {
 pub returns-then-not-branch-clause-drained : goal.returns-then-not-branch-clause-drained
 returns-then-not-branch-clause-drained g c =
     rounds_end g.W.Replayed.facts g.W.Replayed.start c.args.scenario.now c.requires.passes
-      (g.W.Replayed.log c.args.world.now) (g.W.Replayed.log c.loop.world) (g.W.Replayed.log c.round.new.world)
-      c.loop.invariant.rounds (rw (c.requires.hosts, c.if-not-branch.true) at c.in_ok-round.ensures.gone)
+    (g.W.Replayed.log c.args.world.now) (g.W.Replayed.log c.loop.world) (g.W.Replayed.log c.round.new.world)
+    c.loop.invariant.rounds (rw (c.requires.hosts, c.if-not-branch.true) at c.in_ok-round.ensures.gone)

@@ -8,8 +8,8 @@ pub loop-step-preserved : goal.loop-step-preserved
 loop-step-preserved g c =
     let items = c.as_slice-step-items.result.now in
     let here : slice_get c.args.scenario.now.steps c.loop-step.step-index ≡ Some (get_or items c.loop-step.step-index (0, 0)) =
-      ap (λ (l : List (ℕ × ℕ)). slice_get l c.loop-step.step-index) (sym c.as_slice-step-items.ensures)
-        ∙ slice_get-get_or items c.loop-step.step-index (0, 0) (omega arith) in
+    ap (λ (l : List (ℕ × ℕ)). slice_get l c.loop-step.step-index) (sym c.as_slice-step-items.ensures)
+    ∙ slice_get-get_or items c.loop-step.step-index (0, 0) (omega arith) in
     record {
       scenario = c.in_ok-turns.ensures.scenario;
       stepped = stepped_more g.W.Replayed.facts g.W.Replayed.start c.args.scenario.now c.args.scenario.now.steps c.loop-step.step-index
