@@ -1,13 +1,12 @@
 -- Each event leaves fewer turns.
-use Rattle.std.proofs.Common.{◌≡◌, ℕ, zero, suc, ◌+◌, ◌-◌, ◌*◌, ◌<◌, ◌≤◌, ◌⊎◌, inl, inr, Bool, true, false, List, [], ◌∷◌, ◌++◌, length, refl, ap, sym, subst, ◌∙◌, arith, Option, Some, None}
+use Rattle.std.proofs.Common.{◌≡◌, ℕ, zero, suc, ◌<◌, ◌≤◌, ◌⊎◌, inl, inr, Bool, true, false, List, [], ◌∷◌, ◌++◌, length, refl, ap, sym, subst, arith, Option, Some}
 use Rattle.std.proofs.lemmas.Bool.{cases_lt, cases_eq}
 use Rattle.std.proofs.lemmas.Option.{slice_get_within}
-use Rattle.std.specs.Prelude.{slice_get, if◌then◌else◌}
+use Rattle.std.specs.Prelude.{if◌then◌else◌}
 use Rattle.ds_base.specs.declared.sectors.Sector.{Sector}
 use Rattle.ds_tree.specs.PlainPass.{list_at}
 use Rattle.ds_tree.specs.declared.scenarios.Directive.{Directive}
 use Rattle.ds_tree.specs.declared.scenarios.Directive.TheVariants as directives
-use Rattle.ds_tree.specs.declared.scenarios.HostPlan.{HostPlan}
 use Rattle.ds_tree.specs.declared.scenarios.Scenario.{Scenario}
 use Rattle.ds_log.specs.declared.logs.Step.{Step}
 use Rattle.ds_log.specs.declared.logs.Step.TheVariants.{Local, Sent}
@@ -17,7 +16,6 @@ use Rattle.ds_log_order.specs.LogProgress.{moved_own, progress}
 use Rattle.ds_log_order.specs.Progress.{advance, called, died, gone_on}
 use Rattle.ds_log_order.specs.Told.{Told}
 use Rattle.ds_log_order.specs.TurnsLeft.{total, turns_in, turns_left}
-use Rattle.ds_log_order.specs.declared.progress.Arm.{Arm}
 use Rattle.ds_log_order.specs.declared.progress.Arm.TheVariants as arms
 use Rattle.ds_log_order.specs.declared.progress.Mark.{Mark}
 use Rattle.ds_log_order.specs.declared.progress.Progress.{Progress}

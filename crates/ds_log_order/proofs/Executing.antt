@@ -1,5 +1,5 @@
 -- A world after a turn that is an event.
-use Rattle.std.proofs.Common.{◌≡◌, ℕ, zero, suc, ◌+◌, ◌^◌, ◌<◌, ◌≤◌, Bool, true, false, List, [], ◌∷◌, ◌++◌, length, set, refl, ap, sym, subst, ◌∙◌, arith, Option, Some, None}
+use Rattle.std.proofs.Common.{◌≡◌, ℕ, suc, ◌+◌, ◌^◌, ◌<◌, Bool, false, List, [], ◌∷◌, ◌++◌, length, set, refl, ap, sym, subst, ◌∙◌, arith, Option, Some, None}
 use Rattle.std.specs.Option.{is_some}
 use Rattle.std.specs.Prelude.{slice_get}
 use Rattle.ds_base.specs.declared.sectors.Sector.{Sector}
@@ -16,10 +16,10 @@ use Rattle.ds_log.specs.declared.logs.Reply.{Reply}
 use Rattle.ds_log.specs.declared.logs.Step.TheVariants.{Local}
 use Rattle.ds_log_order.specs.CallTurns.{IsAsked, IsCallTurn, IsIdle, mark_of_turn, reply_to, turn_event, turn_told}
 use Rattle.ds_log_order.specs.Execution.{HasGoneOn, Holds}
-use Rattle.ds_log_order.specs.Follows.{Carries, Follows, IsNext, IsReplyIn, clock, is_call, is_death}
+use Rattle.ds_log_order.specs.Follows.{Carries, Follows, IsNext, IsReplyIn, is_call, is_death}
 use Rattle.ds_log_order.specs.HostFacts.{HostFacts, mark_of}
 use Rattle.ds_log_order.specs.KeepsUp.{KeepsUp}
-use Rattle.ds_log_order.specs.LogProgress.{moved_own, progress, progresses}
+use Rattle.ds_log_order.specs.LogProgress.{moved_own}
 use Rattle.ds_log_order.specs.Progress.{advance}
 use Rattle.ds_log_order.specs.Told.{Told, and_some, told}
 use Rattle.ds_log_order.specs.Waiting.{IsGoing, progress_in}

@@ -1,30 +1,24 @@
 -- What a world keeps of how far its hosts have come, after one event more; and when an event is the next.
-use Rattle.std.proofs.Common.{◌≡◌, ℕ, zero, suc, ◌+◌, ◌*◌, ◌^◌, ◌<◌, ◌≤◌, ◌⊎◌, inl, inr, Bool, true, false, List, [], ◌∷◌, ◌++◌, length, set, refl, ap, sym, subst, ◌∙◌, arith, Option, Some, None}
+use Rattle.std.proofs.Common.{◌≡◌, ℕ, zero, suc, ◌+◌, ◌^◌, ◌<◌, ◌≤◌, inl, inr, Bool, true, false, List, [], ◌∷◌, ◌++◌, length, set, refl, ap, sym, subst, ◌∙◌, arith, Option, Some, None}
 use Rattle.std.proofs.lemmas.Bool.{cases_eq}
 use Rattle.std.proofs.lemmas.List.{length-set}
-use Rattle.std.proofs.lemmas.Option.{slice_get_within}
-use Rattle.std.specs.List.{sum_by}
 use Rattle.std.specs.Prelude.{slice_get, if◌then◌else◌}
 use Rattle.ds_base.specs.declared.sectors.Sector.{Sector}
 use Rattle.ds_tree.specs.PlainPass.{list_at}
 use Rattle.ds_tree.specs.declared.scenarios.Directive.{Directive}
 use Rattle.ds_tree.specs.declared.scenarios.Directive.TheVariants as directives
-use Rattle.ds_tree.specs.declared.scenarios.HostPlan.{HostPlan}
 use Rattle.ds_tree.specs.declared.scenarios.Scenario.{Scenario}
 use Rattle.ds_log.specs.Scripts.{directive_at, ticks_of}
 use Rattle.ds_log.specs.declared.logs.Event.{Event}
-use Rattle.ds_log.specs.declared.logs.Reply.{Reply}
-use Rattle.ds_log.specs.declared.logs.Step.{Step}
-use Rattle.ds_log.specs.declared.logs.Step.TheVariants.{Local, Sent}
+use Rattle.ds_log.specs.declared.logs.Step.TheVariants.{Local}
 use Rattle.ds_log.proofs.Pushes.{sum_by-push}
-use Rattle.ds_log_order.specs.Follows.{Carries, IsCallStep, IsNext, IsReplyIn, clock, is_call, is_death}
+use Rattle.ds_log_order.specs.Follows.{Carries, IsNext, clock, is_call, is_death}
 use Rattle.ds_log_order.specs.HostFacts.{HostFacts, mark_of}
 use Rattle.ds_log_order.specs.KeepsUp.{KeepsUp}
 use Rattle.ds_log_order.specs.LogProgress.{moved_own, progress, progresses}
-use Rattle.ds_log_order.specs.Progress.{advance, at_start, called, died, gone_on}
+use Rattle.ds_log_order.specs.Progress.{advance, called, died, gone_on}
 use Rattle.ds_log_order.specs.Told.{Told}
-use Rattle.ds_log_order.specs.TurnsLeft.{turns_in}
-use Rattle.ds_log_order.specs.Waiting.{HasEnded, IsGoing, IsStill, Stands, progress_in, waits}
+use Rattle.ds_log_order.specs.Waiting.{IsGoing, IsStill, Stands, progress_in, waits}
 use Rattle.ds_log_order.specs.declared.progress.Arm.TheVariants as arms
 use Rattle.ds_log_order.specs.declared.progress.Mark.{Mark}
 use Rattle.ds_log_order.specs.declared.progress.Progress.{Progress}

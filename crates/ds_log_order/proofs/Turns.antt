@@ -1,5 +1,5 @@
 -- The steps of the loops of a replay.
-use Rattle.std.proofs.Common.{◌≡◌, ℕ, zero, suc, ◌+◌, ◌<◌, ◌≤◌, ◌⊎◌, inl, inr, Bool, true, false, List, [], ◌∷◌, ◌++◌, length, refl, ap, sym, subst, ◌∙◌, arith, add-one, Option, Some, None}
+use Rattle.std.proofs.Common.{◌≡◌, ℕ, suc, ◌+◌, ◌<◌, ◌⊎◌, inl, inr, Bool, true, false, List, [], length, refl, ap, sym, subst, ◌∙◌, arith, add-one, Option, Some}
 use Rattle.std.proofs.lemmas.Bool.{cases_lt}
 use Rattle.std.specs.Prelude.{slice_get}
 use Rattle.ds_base.specs.declared.sectors.Sector.{Sector}
@@ -11,7 +11,7 @@ use Rattle.ds_log.proofs.Growing.{Each-push}
 use Rattle.ds_log_order.specs.Follows.{IsFollowing, IsNext}
 use Rattle.ds_log_order.specs.HostFacts.{HostFacts}
 use Rattle.ds_log_order.specs.LogProgress.{progresses}
-use Rattle.ds_log_order.specs.Order.{InReplayOrder, IsTurn, Moves, Round, Rounds, RunsOn, Stays, StepLines, Turns, TurnsOf}
+use Rattle.ds_log_order.specs.Order.{InReplayOrder, IsTurn, Moves, Round, Stays, StepLines, Turns, TurnsOf}
 use Rattle.ds_log_order.specs.Told.{Told}
 use Rattle.ds_log_order.specs.Turned.{GoesOn, HasDrained, HasGone, HasGoneRound, HasRun, HasStepped, HasTurned, Turned}
 use Rattle.ds_log_order.specs.TurnsLeft.{turns_in}

@@ -1,20 +1,19 @@
 -- Where every host rests or has ended, all have ended: of the hosts that rest, the one whose directive has the lowest rank waits
 -- for a host whose directive has a lower one.
-use Rattle.std.proofs.Common.{◌≡◌, ℕ, zero, suc, ◌+◌, ◌<◌, ◌≤◌, ◌⊎◌, inl, inr, min, Bool, true, false, List, [], ◌∷◌, ◌++◌, length, refl, ap, sym, subst, ◌∙◌, arith, Option, Some, None}
+use Rattle.std.proofs.Common.{◌≡◌, ℕ, zero, suc, ◌<◌, ◌≤◌, inl, inr, Bool, true, false, List, length, refl, ap, sym, subst, arith, Option, Some, None}
 use Rattle.std.proofs.lemmas.Bool.{cases_lt}
 use Rattle.std.proofs.lemmas.Option.{slice_get_past, slice_get_within}
 use Rattle.std.specs.Prelude.{slice_get, if◌then◌else◌, ◌&&◌}
-use Rattle.ds_tree.specs.PlainPass.{Needs, Passes, PassesAll, directives_of, list_at, one_before, wait_at, wait_of}
+use Rattle.ds_tree.specs.PlainPass.{Needs, PassesAll, directives_of, list_at, one_before, wait_of}
 use Rattle.ds_tree.specs.declared.scenarios.Directive.{Directive}
 use Rattle.ds_tree.specs.declared.scenarios.Directive.TheVariants as directives
 use Rattle.ds_tree.specs.declared.scenarios.HostPlan.{HostPlan}
 use Rattle.ds_tree.specs.declared.scenarios.Point.{Point}
-use Rattle.ds_log.specs.declared.logs.Event.{Event}
 use Rattle.ds_log_order.specs.HostFacts.{HostFacts, mark_of}
 use Rattle.ds_log_order.specs.LogProgress.{progress, progresses}
-use Rattle.ds_log_order.specs.Progress.{advance, arm_after, at_start, called, died, gone_on}
+use Rattle.ds_log_order.specs.Progress.{advance, arm_after, called, died, gone_on}
 use Rattle.ds_log_order.specs.Told.{Told}
-use Rattle.ds_log_order.specs.Waiting.{HasEnded, IsResting, IsStill, bitten_of, due, waits}
+use Rattle.ds_log_order.specs.Waiting.{HasEnded, IsResting, IsStill, waits}
 use Rattle.ds_log_order.specs.declared.progress.Arm.{Arm}
 use Rattle.ds_log_order.specs.declared.progress.Arm.TheVariants as arms
 use Rattle.ds_log_order.specs.declared.progress.Mark.{Mark}

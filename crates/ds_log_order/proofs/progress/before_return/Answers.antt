@@ -1,4 +1,4 @@
-use Rattle.std.proofs.Common.{◌≡◌, ℕ, ◌≤◌, length, arith, ap, sym, ◌∙◌}
+use Rattle.std.proofs.Common.{◌≤◌, length, arith, ap, sym, ◌∙◌}
 use Rattle.std.proofs.lemmas.List.Sums.{position_or_len_is}
 use Rattle.ds_tree.specs.declared.scenarios.Directive.TheVariants as directives
 use Rattle.ds_log_order.specs.Progress.{is_return}

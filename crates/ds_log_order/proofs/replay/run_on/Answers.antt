@@ -1,8 +1,4 @@
-use Rattle.ds_tree.specs.declared.scenarios.Scenario.{Scenario}
-use Rattle.ds_log.specs.declared.moves.Moved.{Moved}
-use Rattle.ds_log.specs.declared.moves.Moved.TheVariants as moves
-use Rattle.ds_log_order.specs.Turned.{Turned}
-use Rattle.ds_log_order.proofs.Turns.{moved_ends, moved_falls, moved_more, moved_rests}
+use Rattle.ds_log_order.proofs.Turns.{moved_falls, moved_more}
 use Rattle.ds_log_order.proofs.replay.run_on.Goals as goal
 
 pub loop-any-smaller : goal.loop-any-smaller
