@@ -1,6 +1,28 @@
 -- Where every host rests or has ended, all have ended: of the hosts that rest, the one whose directive has the lowest rank waits
 -- for a host whose directive has a lower one.
-use Rattle.std.proofs.Common.{◌≡◌, ℕ, zero, suc, ◌<◌, ◌≤◌, inl, inr, Bool, true, false, List, length, refl, ap, sym, subst, arith, Option, Some, None}
+use Rattle.std.proofs.Common.{
+  ◌≡◌,
+  ℕ,
+  zero,
+  suc,
+  ◌<◌,
+  ◌≤◌,
+  inl,
+  inr,
+  Bool,
+  true,
+  false,
+  List,
+  length,
+  refl,
+  ap,
+  sym,
+  subst,
+  arith,
+  Option,
+  Some,
+  None,
+}
 use Rattle.std.proofs.lemmas.Bool.{cases_lt}
 use Rattle.std.proofs.lemmas.Option.{slice_get_past, slice_get_within}
 use Rattle.std.specs.Prelude.{slice_get, if◌then◌else◌, ◌&&◌}

@@ -1,5 +1,23 @@
 //! The carrying out of a scenario, turn by turn.
-ghost use Rattle.std.specs.Prelude.{◌≡◌, ◌<◌, ◌+◌, ◌^◌, ◌++◌, ◌∷◌, ℕ, suc, List, [], Option, MatchOption, length, slice_get, slice_set, Some, false};
+ghost use Rattle.std.specs.Prelude.{
+  ◌≡◌,
+  ◌<◌,
+  ◌+◌,
+  ◌^◌,
+  ◌++◌,
+  ◌∷◌,
+  ℕ,
+  suc,
+  List,
+  [],
+  Option,
+  MatchOption,
+  length,
+  slice_get,
+  slice_set,
+  Some,
+  false,
+};
 ghost use Rattle.ds_tree.specs.PlainPass.{list_at};
 ghost use Rattle.ds_tree.specs.declared.scenarios.Directive.{Directive};
 ghost use Rattle.ds_tree.specs.declared.scenarios.Directive.TheVariants as directives;
