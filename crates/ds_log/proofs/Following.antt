@@ -23,7 +23,8 @@ use Rattle.ds_log.proofs.Legal.{IsGiven-push}
 pub reply_later : (host n : ℕ) (r : Reply) → n ≤ r.event → is_reply_before host n r ≡ false
 reply_later host n r le = grind (arith, nat_tests)
 
-pub finished-later : (replies : List Reply) (r : Reply) (host n : ℕ) → n ≤ r.event → finished (replies ++ r ∷ []) host n ≡ finished replies host n
+pub finished-later : (replies : List Reply) (r : Reply) (host n : ℕ) → n ≤ r.event
+    → finished (replies ++ r ∷ []) host n ≡ finished replies host n
 finished-later replies r host n le =
     omega (arith, count_by-push (is_reply_before host n) replies r, ap (λ (b : Bool). cond {A = ℕ} b 1 0) (reply_later host n r le))
 
@@ -68,13 +69,16 @@ module _ (start : List Sector) (s : Scenario) where
   }
 
   -- an event that gives a reply
-  pub follows-answered : (events : List Event) (replies : List Reply) (e : Event) (r : Reply) → r.event ≡ length events → e.host ≡ r.host → e.directive ≡ r.directive
-      → IsNext start s (replies ++ r ∷ []) events e → Follows start s events replies → Follows start s (events ++ e ∷ []) (replies ++ r ∷ [])
+  pub follows-answered : (events : List Event) (replies : List Reply) (e : Event) (r : Reply) → r.event ≡ length events → e.host ≡ r.host
+      → e.directive ≡ r.directive
+      → IsNext start s (replies ++ r ∷ []) events e → Follows start s events replies
+      → Follows start s (events ++ e ∷ []) (replies ++ r ∷ [])
   follows-answered events replies e r here host directive next follows = record {
     next = EachEvent-push (IsNext start s (replies ++ r ∷ [])) events e
         (EachEvent-map (IsNext start s replies) (IsNext start s (replies ++ r ∷ [])) events
         (λ n d at was. IsNext-reply replies r (take n events) d
-        (omega (arith, here, get-within events n d at, length-take-le n events (omega (arith, get-within events n d at)))) was) follows.next)
+        (omega (arith, here, get-within events n d at, length-take-le n events (omega (arith, get-within events n d at)))) was)
+        follows.next)
         next;
     given = λ i q at. elim (get-push_cases replies r q i at) [
       | inl old ↦ IsGiven-push events e q (follows.given i q old)

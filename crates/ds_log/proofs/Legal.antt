@@ -35,7 +35,8 @@ first_is_old events e host directive n m d there is_of first =
           none_before = λ k c less at. first.none_before k c less (get-push_old events e c k at);
         },
       )
-      | inr last ↦ absurd (first.none_before m d (omega (arith, get-within events m d there, last.0)) (get-push_old events e d m there) is_of)
+      | inr last ↦ absurd
+          (first.none_before m d (omega (arith, get-within events m d there, last.0)) (get-push_old events e d m there) is_of)
     ]
 
 module _ (rules : Rules) (g : Geom) (calls : Calls) where
@@ -58,7 +59,8 @@ module _ (rules : Rules) (g : Geom) (calls : Calls) where
   }
 
   Stands-event : (events : List Event) (e : Event) (trees : List FileTree) (changes : List Change) (r : Reply) (answer : HostAnswer)
-      → IsGiven events r → Stands rules g calls events trees changes r answer → Stands rules g calls (events ++ e ∷ []) trees changes r answer
+      → IsGiven events r → Stands rules g calls events trees changes r answer
+      → Stands rules g calls (events ++ e ∷ []) trees changes r answer
   Stands-event events e trees changes r (Tree x) given stands = HasPlace-event events e trees changes r x given stands
   Stands-event events e trees changes r (Registered slot generation) given stands = stands
   Stands-event events e trees changes r _ given stands = absurd stands
@@ -75,7 +77,8 @@ module _ (rules : Rules) (g : Geom) (calls : Calls) where
   }
 
   -- the trees and changes go on, by a change of a call that has no reply
-  HasPlace-change : (events : List Event) (trees : List FileTree) (changes : List Change) (c : Change) (u : FileTree) (r : Reply) (x : TreeReply)
+  HasPlace-change : (events : List Event) (trees : List FileTree) (changes : List Change) (c : Change) (u : FileTree) (r : Reply)
+      (x : TreeReply)
       → (c.host ≡ r.host → c.directive ≡ r.directive → ⊥) → HasPlace rules g calls events trees changes r x
       → HasPlace rules g calls events (trees ++ u ∷ []) (changes ++ c ∷ []) r x
   HasPlace-change events trees changes c u r x other place = record {
@@ -107,14 +110,16 @@ module _ (rules : Rules) (g : Geom) (calls : Calls) where
     to = place.to;
   }
 
-  Stands-change : (events : List Event) (trees : List FileTree) (changes : List Change) (c : Change) (u : FileTree) (r : Reply) (answer : HostAnswer)
+  Stands-change : (events : List Event) (trees : List FileTree) (changes : List Change) (c : Change) (u : FileTree) (r : Reply)
+      (answer : HostAnswer)
       → (c.host ≡ r.host → c.directive ≡ r.directive → ⊥) → Stands rules g calls events trees changes r answer
       → Stands rules g calls events (trees ++ u ∷ []) (changes ++ c ∷ []) r answer
   Stands-change events trees changes c u r (Tree x) other stands = HasPlace-change events trees changes c u r x other stands
   Stands-change events trees changes c u r (Registered slot generation) other stands = stands
   Stands-change events trees changes c u r _ other stands = absurd stands
 
-  AreSteps-change : (trees : List FileTree) (changes : List Change) (c : Change) (t u : FileTree) → slice_get trees (length changes) ≡ Some t
+  AreSteps-change : (trees : List FileTree) (changes : List Change) (c : Change) (t u : FileTree)
+      → slice_get trees (length changes) ≡ Some t
       → Does g t c.call c.reply u → AreSteps g trees changes → AreSteps g (trees ++ u ∷ []) (changes ++ c ∷ [])
   AreSteps-change trees changes c t u last does steps = record {
     first = get-push_old trees u _ 0 steps.first;
@@ -137,7 +142,8 @@ module _ (rules : Rules) (g : Geom) (calls : Calls) where
     ];
   }
 
-  pub IsLegal-change : (events : List Event) (replies : List Reply) (trees : List FileTree) (changes : List Change) (c : Change) (t u : FileTree)
+  pub IsLegal-change : (events : List Event) (replies : List Reply) (trees : List FileTree) (changes : List Change) (c : Change)
+      (t u : FileTree)
       → slice_get trees (length changes) ≡ Some t → Does g t c.call c.reply u
       → ((i : ℕ) (r : Reply) → slice_get replies i ≡ Some r → c.host ≡ r.host → c.directive ≡ r.directive → ⊥)
       → ((i : ℕ) (b : Change) → slice_get changes i ≡ Some b → b.host ≡ c.host → b.directive ≡ c.directive → ⊥)
@@ -151,10 +157,13 @@ module _ (rules : Rules) (g : Geom) (calls : Calls) where
     one_change = λ i j a b at there host directive. elim (get-push_cases changes c a i at) [
       | inl old ↦ elim (get-push_cases changes c b j there) [
         | inl too ↦ legal.one_change i j a b old too host directive
-        | inr now ↦ absurd (no_change i a old (host ∙ sym (ap (λ (y : Change). y.host) now.1)) (directive ∙ sym (ap (λ (y : Change). y.directive) now.1)))
+        | inr now ↦ absurd
+            (no_change i a old (host ∙ sym (ap (λ (y : Change). y.host) now.1)) (directive ∙ sym (ap (λ (y : Change). y.directive) now.1)))
       ]
       | inr now ↦ elim (get-push_cases changes c b j there) [
-        | inl too ↦ absurd (no_change j b too (sym host ∙ sym (ap (λ (y : Change). y.host) now.1)) (sym directive ∙ sym (ap (λ (y : Change). y.directive) now.1)))
+        | inl too ↦ absurd
+            (no_change j b too (sym host ∙ sym (ap (λ (y : Change). y.host) now.1))
+            (sym directive ∙ sym (ap (λ (y : Change). y.directive) now.1)))
         | inr too ↦ now.0 ∙ sym too.0
       ]
     ];
@@ -188,10 +197,13 @@ module _ (rules : Rules) (g : Geom) (calls : Calls) where
     one_reply = λ i j a b at there host directive. elim (get-push_cases replies r a i at) [
       | inl old ↦ elim (get-push_cases replies r b j there) [
         | inl too ↦ legal.one_reply i j a b old too host directive
-        | inr now ↦ absurd (no_reply i a old (host ∙ sym (ap (λ (y : Reply). y.host) now.1)) (directive ∙ sym (ap (λ (y : Reply). y.directive) now.1)))
+        | inr now ↦ absurd
+            (no_reply i a old (host ∙ sym (ap (λ (y : Reply). y.host) now.1)) (directive ∙ sym (ap (λ (y : Reply). y.directive) now.1)))
       ]
       | inr now ↦ elim (get-push_cases replies r b j there) [
-        | inl too ↦ absurd (no_reply j b too (sym host ∙ sym (ap (λ (y : Reply). y.host) now.1)) (sym directive ∙ sym (ap (λ (y : Reply). y.directive) now.1)))
+        | inl too ↦ absurd
+            (no_reply j b too (sym host ∙ sym (ap (λ (y : Reply). y.host) now.1))
+            (sym directive ∙ sym (ap (λ (y : Reply). y.directive) now.1)))
         | inr too ↦ now.0 ∙ sym too.0
       ]
     ];

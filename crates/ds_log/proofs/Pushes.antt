@@ -20,7 +20,8 @@ get-push_last [] x = refl
 get-push_last (z ∷ zs) x = get-push_last zs x
 
 -- what stands in the longer list stood there before, or is the last element
-pub get-push_cases : {A : Type 0} (xs : List A) (x y : A) (i : ℕ) → slice_get (xs ++ x ∷ []) i ≡ Some y → (slice_get xs i ≡ Some y) ⊎ ((i ≡ length xs) × (x ≡ y))
+pub get-push_cases : {A : Type 0} (xs : List A) (x y : A) (i : ℕ) → slice_get (xs ++ x ∷ []) i ≡ Some y
+    → (slice_get xs i ≡ Some y) ⊎ ((i ≡ length xs) × (x ≡ y))
 get-push_cases [] x y zero h = inr (refl, cc)
 get-push_cases [] x y (suc i) h = absurd cc
 get-push_cases (z ∷ zs) x y zero h = inl h

@@ -18,12 +18,16 @@ module _ (rules : Rules) (calls : Calls) where
   HasChange replies changes past e =
       commits_next rules past e ≡ true → (c : Change) × (slice_get changes (commits rules past) ≡ Some c) × IsChangeOf calls replies e c
 
-  IsChangeOf-reply : (replies : List Reply) (r : Reply) (e : Event) (c : Change) → IsChangeOf calls replies e c → IsChangeOf calls (replies ++ r ∷ []) e c
+  IsChangeOf-reply : (replies : List Reply) (r : Reply) (e : Event) (c : Change) → IsChangeOf calls replies e c
+      → IsChangeOf calls (replies ++ r ∷ []) e c
   IsChangeOf-reply replies r e c is = record {
     host = is.host;
     directive = is.directive;
     call = is.call;
-    given = (is.given.0, (is.given.1.0, get-push_old replies r is.given.1.0 is.given.0 is.given.1.1, is.given.1.2, is.given.1.3, is.given.1.4));
+    given = (
+      is.given.0,
+      (is.given.1.0, get-push_old replies r is.given.1.0 is.given.0 is.given.1.1, is.given.1.2, is.given.1.3, is.given.1.4),
+    );
   }
 
   pub whole-reply : (events : List Event) (replies : List Reply) (changes : List Change) (r : Reply)
@@ -41,8 +45,10 @@ module _ (rules : Rules) (calls : Calls) where
   }
 
   -- a commit with its change and its reply
-  pub whole-commit : (events : List Event) (replies : List Reply) (changes : List Change) (e : Event) (c : Change) → commits_next rules events e ≡ true
-      → IsChangeOf calls replies e c → IsWholeOrNot rules calls events replies changes → IsWholeOrNot rules calls (events ++ e ∷ []) replies (changes ++ c ∷ [])
+  pub whole-commit : (events : List Event) (replies : List Reply) (changes : List Change) (e : Event) (c : Change)
+      → commits_next rules events e ≡ true
+      → IsChangeOf calls replies e c → IsWholeOrNot rules calls events replies changes
+      → IsWholeOrNot rules calls (events ++ e ∷ []) replies (changes ++ c ∷ [])
   whole-commit events replies changes e c is change whole = record {
     count = omega (arith, length-push changes c, whole.count, commits-push_one rules events e is);
     each = EachEvent-push (HasChange replies (changes ++ c ∷ [])) events e
@@ -51,7 +57,8 @@ module _ (rules : Rules) (calls : Calls) where
   }
 
 -- a moment keeps its tree when a tree is added
-pub StandsAfter-tree : (rules : Rules) (trees : List FileTree) (u : FileTree) (events : List Event) → StandsAfter rules trees events → StandsAfter rules (trees ++ u ∷ []) events
+pub StandsAfter-tree : (rules : Rules) (trees : List FileTree) (u : FileTree) (events : List Event) → StandsAfter rules trees events
+    → StandsAfter rules (trees ++ u ∷ []) events
 StandsAfter-tree rules trees u events stands = record {
   tree = stands.tree;
   there = get-push_old trees u stands.tree _ stands.there;

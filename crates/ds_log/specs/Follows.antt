@@ -18,7 +18,7 @@ use Rattle.ds_log.specs.declared.logs.Reply.{Reply}
 use Rattle.ds_log.specs.Store.{store}
 use Rattle.ds_log.specs.Moments.{EachEvent}
 use Rattle.ds_log.specs.History.{IsGiven}
-use Rattle.ds_log.specs.Scripts.{list_of, directive_at}
+use Rattle.ds_log.specs.Scripts.{list_of, directive_at, ticks_of}
 
 abbrev pub is_reply_before : ℕ → ℕ → Reply → Bool
 is_reply_before host n r = r.host == host && nat_lt r.event n
@@ -39,10 +39,6 @@ holding host n own r = if is_reply_before host n r then generation_given r.answe
 abbrev pub held : List Reply → ℕ → ℕ → Option (ℕ × ℕ)
 held replies host n = fold (holding host n) None replies
 
-abbrev pub ticks_of : Option Directive → ℕ
-ticks_of (Some (directives.Tick ticks)) = ticks
-ticks_of _ = 0
-
 -- the clock after these events
 abbrev pub clock : Scenario → List Event → ℕ
 clock s past = sum_by (λ e. ticks_of (directive_at s e.host e.directive)) past
@@ -55,7 +51,8 @@ abbrev pub is_event_of : ℕ → ℕ → Event → Bool
 is_event_of host directive e = e.host == host && e.directive == directive
 
 -- a command of a call, sent under the generation held, which lands and answers as the device does
-pub record IsCommand (start : List Sector) (replies : List Reply) (past : List Event) (e : Event) (under : Option (ℕ × ℕ)) (command : Command) (response : Response) (landed took : Bool) : Type 0 where
+pub record IsCommand (start : List Sector) (replies : List Reply) (past : List Event) (e : Event) (under : Option (ℕ × ℕ))
+    (command : Command) (response : Response) (landed took : Bool) : Type 0 where
   pub holds : under ≡ held replies e.host (length past)
   pub lands : landed ≡ true
   pub answers : Answers (store start past) command response
@@ -97,7 +94,8 @@ NoneOf host events = All (λ e. e.host ≡ host → ⊥) events
 -- from this host on, so many hosts make all their turns, one host after another
 abbrev pub InDrain : ℕ → ℕ → List Event → Type 0
 InDrain host zero events = events ≡ []
-InDrain host (suc left) events = (n : ℕ) × AreOf host (take n events) × NoneOf host (drop n events) × InDrain (host + 1) left (drop n events)
+InDrain host (suc left) events =
+    (n : ℕ) × AreOf host (take n events) × NoneOf host (drop n events) × InDrain (host + 1) left (drop n events)
 
 -- the order of a replay of so many hosts that never rest: each step line gives a host so many turns, fewer only where its
 -- list ends; then the hosts make the turns that are left, one host after another

@@ -60,14 +60,16 @@ pub record StandsAtChange (changes : List Change) (r : Reply) (x : TreeReply) (p
   pub reply : change.reply ≡ x
 
 -- the call has no change, and the reply is right at the tree of its place, which it leaves
-pub record StandsAtTree (g : Geom) (trees : List FileTree) (changes : List Change) (call : CallOf Key) (r : Reply) (x : TreeReply) (p : ℕ) : Type 0 where
+pub record StandsAtTree (g : Geom) (trees : List FileTree) (changes : List Change) (call : CallOf Key) (r : Reply) (x : TreeReply)
+    (p : ℕ) : Type 0 where
   pub no_change : (k : ℕ) (c : Change) → slice_get changes k ≡ Some c → c.host ≡ r.host → c.directive ≡ r.directive → ⊥
   pub tree : FileTree
   pub there : slice_get trees p ≡ Some tree
   pub right : Does g tree call x tree
 
 -- an answer of the file tree has a place in the history, inside its call
-pub record HasPlace (rules : Rules) (g : Geom) (calls : Calls) (events : List Event) (trees : List FileTree) (changes : List Change) (r : Reply) (x : TreeReply) : Type 0 where
+pub record HasPlace (rules : Rules) (g : Geom) (calls : Calls) (events : List Event) (trees : List FileTree) (changes : List Change)
+    (r : Reply) (x : TreeReply) : Type 0 where
   pub p : ℕ
   pub call : CallOf Key
   pub place : r.place ≡ Some p
@@ -98,11 +100,14 @@ pub record AreSteps (g : Geom) (trees : List FileTree) (changes : List Change) :
 
 -- the history is one of a file tree: the changes are steps from the fresh tree, each reply stands in it at a place inside its
 -- call, places don't fall along the replies of a host, and no call has two changes or two replies
-pub record IsLegal (rules : Rules) (g : Geom) (calls : Calls) (events : List Event) (replies : List Reply) (trees : List FileTree) (changes : List Change) : Type 0 where
+pub record IsLegal (rules : Rules) (g : Geom) (calls : Calls) (events : List Event) (replies : List Reply) (trees : List FileTree)
+    (changes : List Change) : Type 0 where
   pub steps : AreSteps g trees changes
   pub given : (i : ℕ) (r : Reply) → slice_get replies i ≡ Some r → IsGiven events r
   pub stands : (i : ℕ) (r : Reply) → slice_get replies i ≡ Some r → Stands rules g calls events trees changes r r.answer
   pub in_order : (i j : ℕ) (r s : Reply) (p q : ℕ) → i < j → slice_get replies i ≡ Some r → slice_get replies j ≡ Some s → r.host ≡ s.host
       → r.place ≡ Some p → s.place ≡ Some q → p ≤ q
-  pub one_reply : (i j : ℕ) (r s : Reply) → slice_get replies i ≡ Some r → slice_get replies j ≡ Some s → r.host ≡ s.host → r.directive ≡ s.directive → i ≡ j
-  pub one_change : (i j : ℕ) (c d : Change) → slice_get changes i ≡ Some c → slice_get changes j ≡ Some d → c.host ≡ d.host → c.directive ≡ d.directive → i ≡ j
+  pub one_reply : (i j : ℕ) (r s : Reply) → slice_get replies i ≡ Some r → slice_get replies j ≡ Some s → r.host ≡ s.host
+      → r.directive ≡ s.directive → i ≡ j
+  pub one_change : (i j : ℕ) (c d : Change) → slice_get changes i ≡ Some c → slice_get changes j ≡ Some d → c.host ≡ d.host
+      → c.directive ≡ d.directive → i ≡ j

@@ -6,6 +6,10 @@ use Rattle.ds_log.specs.declared.logs.Event.{Event}
 abbrev pub AtEveryMoment : (List Event → Type 0) → List Event → Type 0
 AtEveryMoment P events = (n : ℕ) → n ≤ length events → P (take n events)
 
+-- of each element of a list, with those before it
+abbrev pub Each : {A : Type 0} → (List A → A → Type 0) → List A → Type 0
+Each {A} P xs = (n : ℕ) (x : A) → slice_get xs n ≡ Some x → P (take n xs) x
+
 -- of each event, with those before it
 abbrev pub EachEvent : (List Event → Event → Type 0) → List Event → Type 0
-EachEvent P events = (n : ℕ) (e : Event) → slice_get events n ≡ Some e → P (take n events) e
+EachEvent P events = Each P events

@@ -1,5 +1,5 @@
 -- What the hosts of a scenario are to do, with variables as their own replies have bound them.
-use Rattle.std.specs.Prelude.{ℕ, zero, suc, ◌==◌, ◌&&◌, Bool, false, nat_lt, List, [], fold, slice_get, Option, Some, None, if◌then◌else◌}
+use Rattle.std.specs.Prelude.{ℕ, zero, suc, ◌==◌, ◌&&◌, Bool, false, nat_lt, List, fold, slice_get, Option, Some, None, if◌then◌else◌}
 use Rattle.std.specs.Str.{bytes_eq}
 use Rattle.ds_base.specs.declared.names.Key.{Key}
 use Rattle.ds_tree.specs.declared.calls.CallOf.{CallOf}
@@ -8,11 +8,11 @@ use Rattle.ds_tree.specs.declared.calls.HostCallOf.TheVariants as host_calls
 use Rattle.ds_tree.specs.declared.calls.TreeReply.TheVariants.{Made, Found}
 use Rattle.ds_tree.specs.declared.scenarios.Directive.{Directive}
 use Rattle.ds_tree.specs.declared.scenarios.Directive.TheVariants as directives
-use Rattle.ds_tree.specs.declared.scenarios.HostPlan.{HostPlan}
 use Rattle.ds_tree.specs.declared.scenarios.Scenario.{Scenario}
 use Rattle.ds_tree.specs.declared.variables.Spoken.{Spoken}
 use Rattle.ds_tree.specs.declared.variables.Spoken.TheVariants as spoken
 use Rattle.ds_tree.specs.Nodes.{root_key}
+use Rattle.ds_tree.specs.PlainPass.{list_at}
 use Rattle.ds_conduct.specs.declared.answers.HostAnswer.{HostAnswer}
 use Rattle.ds_conduct.specs.declared.answers.HostAnswer.TheVariants.{Tree}
 use Rattle.ds_log.specs.declared.logs.Reply.{Reply}
@@ -20,15 +20,17 @@ use Rattle.ds_log.specs.History.{Calls}
 
 -- the directives of a host
 abbrev pub list_of : Scenario → ℕ → List Directive
-list_of s host = listed (slice_get s.hosts host) where
-  listed : Option HostPlan → List Directive
-  listed None = []
-  listed (Some plan) = plan.list
+list_of s host = list_at s.hosts host
 
 -- the directive with this number, counted from 1
 abbrev pub directive_at : Scenario → ℕ → ℕ → Option Directive
 directive_at s host zero = None
 directive_at s host (suc n) = slice_get (list_of s host) n
+
+-- by how many ticks a directive moves the clock on
+abbrev pub ticks_of : Option Directive → ℕ
+ticks_of (Some (directives.Tick ticks)) = ticks
+ticks_of _ = 0
 
 -- whether a directive binds this variable
 abbrev pub binds : Option Directive → List ℕ → Bool
