@@ -1,3 +1,4 @@
 pub mod Spelled
 pub mod LockPasses
 pub mod LockSights
+pub mod Locks
