@@ -1,0 +1,156 @@
+-- The taking of a lock keeps the guards of a host, and what the host answers there is right.
+use Rattle.std.proofs.Common.{◌≡◌, ◌≢◌, ℕ, ◌+◌, ◌^◌, ◌<◌, ◌≤◌, ◌⊎◌, inl, inr, Bool, true, false, cond, List, [], ◌∷◌, ◌++◌, length, Option, Some, None, refl, sym, ap, subst, ◌∙◌, append_assoc, arith}
+use Rattle.std.specs.Prelude.{◌==◌}
+use Rattle.std.specs.List.{Contains}
+use Rattle.std.proofs.lemmas.Bool.{cases_eq, eq-eqb}
+use Rattle.std.proofs.lemmas.Bool.Decides.{nat_tests}
+use Rattle.std.proofs.lemmas.List.Elements.{Contains-append_right}
+use Rattle.std.proofs.lemmas.Option.{same_Some}
+use Rattle.ds_base.specs.Device.{Fits}
+use Rattle.ds_base.specs.Exchanges.{Exchange, IsLast, seen_of}
+use Rattle.ds_base.specs.declared.commands.Command.{Command}
+use Rattle.ds_base.specs.declared.commands.Command.TheVariants.{Read, Write, Swap}
+use Rattle.ds_base.specs.declared.commands.Next.{Next}
+use Rattle.ds_base.specs.declared.commands.Next.TheVariants as nexts
+use Rattle.ds_base.specs.declared.commands.Response.{Response}
+use Rattle.ds_base.specs.declared.commands.Response.TheVariants.{Got, Done, Miscompare, Fault}
+use Rattle.ds_base.specs.declared.sectors.Sector.{Sector}
+use Rattle.ds_conduct.specs.Conducts.{Answers}
+use Rattle.ds_conduct.specs.Digests as digests
+use Rattle.ds_conduct.specs.Digests.{Digest, Own, noted}
+use Rattle.ds_conduct.specs.Guards.{Lock, Locks, MayRead, MaySend, SawOver}
+use Rattle.ds_conduct.specs.Headers.{owner_of}
+use Rattle.ds_conduct.specs.Settings.{Setting}
+use Rattle.ds_layout.proofs.SamePlace.{place_within}
+use Rattle.ds_layout.specs.Places.{total_of}
+use Rattle.ds_layout.specs.declared.places.Place.TheVariants as places
+use Rattle.ds_lock.proofs.Order.{slot-later}
+use Rattle.ds_lock.proofs.Shown.{few-slots, seen_of-append}
+use Rattle.ds_lock.specs.Locking.{IsLoose, IsShown, IsSlotShown, Over, Unowned, header_image, lock_sector, read_of, slot_image, slot_sector, taken_from}
+use Rattle.ds_lock.specs.Stages.{HasSeen, IsWanted, LockValue, due, due_at, notes_after, noted_at}
+use Rattle.ds_lock.specs.declared.steps.Stage.{Stage}
+use Rattle.ds_lock.specs.declared.steps.Stage.TheVariants as stages
+use Rattle.ds_lock.specs.declared.steps.Wanted.{Wanted}
+use Rattle.ds_marks.specs.Header.{IsHeader}
+use Rattle.ds_marks.specs.declared.header.Header.{Header}
+use Rattle.ds_marks.specs.declared.header.Owner.{Owner}
+use Rattle.ds_marks.specs.declared.slot.Slot.{Slot}
+use Rattle.ds_watch.specs.Notes.{Note}
+use Rattle.ds_host_laws.proofs.LockSights.{slot-spelled}
+use Rattle.ds_host_laws.proofs.Spelled.{header-again}
+use Rattle.ds_host_laws.specs.Locks.{IsTaking}
+
+abbrev Pair : Type 0
+Pair = ℕ × Sector
+
+Contains-head : (x : Pair) (xs : List Pair) → Contains (x ∷ xs) x
+Contains-head x xs = (0, omega arith, refl)
+
+contains-last : (list : List Pair) (at : ℕ) (s : Sector) → IsLast list at s → Contains list (at, s)
+contains-last list at s last = subst (λ (l : List Pair). Contains l (at, s)) (sym last.parts)
+    (Contains-append_right last.newer ((at, s) ∷ last.older) (at, s) (Contains-head (at, s) last.older))
+
+abbrev command_of : Next → Command
+command_of (nexts.Send command) = command
+command_of nexts.Rest = Read 0
+command_of (nexts.Late now last) = Read 0
+
+-- what a host wants that takes a lock under the generation that it holds
+abbrev pub wanted_by : Setting → Own → ℕ → Wanted
+wanted_by setting own object = record { geom = setting.geom; own = owner_of setting own; object = object }
+
+module _ (setting : Setting) (own : Own) (object : ℕ) (is_wanted : IsWanted (wanted_by setting own object)) where
+  abbrev w : Wanted
+  w = wanted_by setting own object
+
+  -- the header that a Swap writes is one
+  pub taken-is : (h : Header) → length setting.host ≡ 16 → IsHeader h → h.generation < 2 ^ 62 → IsHeader (taken_from w.own h)
+  taken-is h size is room =
+      let few : own.slot < 16 = few-slots setting.geom own.slot is_wanted.is_geom is_wanted.within in
+      record {
+        widths = record { object_fits = is.widths.object_fits; owner_fits = (omega (arith, few), size) };
+        ranges = record { generation_to = omega (arith, room); is_owner = is_wanted.is_owner };
+      }
+
+  module _ (d : Digest) (now : ℕ) (host_size : length setting.host ≡ 16) (holds : d.own ≡ Some own) (unanswered : d.answer ≡ None)
+      (pass rest : List Exchange) (parts : d.exchanges ≡ pass ++ rest) where
+    -- the header was shown last, and what was shown since
+    last-parts : (h : Header) (shown : IsShown w pass h)
+        → seen_of d.exchanges ≡ seen_of shown.later ++ (lock_sector setting.geom object, header_image h) ∷ seen_of rest
+    last-parts h shown =
+        let header : Exchange = read_of (lock_sector setting.geom object) (header_image h) shown.tick in
+        ap seen_of (parts ∙ (ap (λ (l : List Exchange). l ++ rest) shown.parts ∙ append_assoc shown.later (header ∷ []) rest))
+        ∙ seen_of-append shown.later (header ∷ rest)
+
+    over : (h : Header) (shown : IsShown w pass h) → IsLoose w pass h → (owner : Owner) → h.owner ≡ Some owner
+        → SawOver setting.geom (seen_of shown.later) owner.slot owner.generation
+    over h shown (Unowned none) owner owned = absurd cc
+    over h shown (Over o s owned' there above) owner owned =
+        let same : o ≡ owner = same_Some o owner (sym owned' ∙ owned) in
+        subst (λ (v : Owner). SawOver setting.geom (seen_of shown.later) v.slot v.generation) same (record {
+          within = there.within;
+          sector = slot_image o.slot s;
+          shown = contains-last (seen_of shown.later) (slot_sector setting.geom o.slot) (slot_image o.slot s)
+              (slot-later w pass h shown o.slot s there).last;
+          image = s;
+          spelled = slot-spelled w is_wanted.is_geom o.slot s there.within there.is_slot;
+          above = above;
+        })
+
+    -- the Swap that takes a header that nobody has
+    locks : (h : Header) → IsShown w pass h → IsLoose w pass h → h.generation < 2 ^ 62
+        → Locks setting d now (lock_sector setting.geom object) (header_image h) (header_image (taken_from w.own h))
+    locks h shown loose room = record {
+      own = own;
+      holds = holds;
+      unanswered = unanswered;
+      swap = record {
+        object = object;
+        is_lock = is_wanted.is_lock;
+        place = refl;
+        old = h;
+        new = taken_from w.own h;
+        was = header-again h shown.is_header;
+        is = header-again (taken_from w.own h) (taken-is h host_size shown.is_header room);
+        was_object = shown.same_object;
+        same_object = shown.same_object;
+      };
+      last = record {
+        newer = seen_of shown.later;
+        older = seen_of rest;
+        parts = last-parts h shown;
+        newest = shown.apart;
+      };
+      free = over h shown loose;
+      owned = refl;
+      generation = refl;
+    }
+
+    -- what is sent: a Read, or that Swap
+    data Step (command : Command) : Type 0 where
+      Looks : (at : ℕ) → command ≡ Read at → MayRead setting d now at → Step command
+      Takes : (h : Header) → command ≡ Swap (lock_sector setting.geom object) (header_image h) (header_image (taken_from w.own h))
+          → IsShown w pass h → IsLoose w pass h → h.generation < 2 ^ 62 → Step command
+
+    reads-slot : (slot : ℕ) → slot < setting.geom.slots → MayRead setting d now (slot_sector setting.geom slot)
+    reads-slot slot within = record {
+      unanswered = unanswered;
+      within = place_within setting.geom (places.Slot slot) is_wanted.is_geom within;
+    }
+
+    step : (stage : Stage) (command : Command) → due_at w stage ≡ nexts.Send command → HasSeen w stage pass → Step command
+    step stages.Header command due seen = Looks (lock_sector setting.geom object) (sym (ap command_of due)) (record {
+      unanswered = unanswered;
+      within = place_within setting.geom (places.Header object) is_wanted.is_geom is_wanted.is_lock;
+    })
+    step (stages.Owner h o) command due seen =
+        Looks (slot_sector setting.geom o.slot) (sym (ap command_of due)) (reads-slot o.slot seen.1)
+    step (stages.Breaker h slot s by' generation) command due seen =
+        Looks (slot_sector setting.geom by') (sym (ap command_of due)) (reads-slot by' seen.2)
+    step (stages.Taking h) command due seen = Takes h (sym (ap command_of due)) seen.0 seen.1 seen.2
+    step (stages.Broken h slot s) command due seen = absurd cc
+    step stages.Over command due seen = absurd cc
+
+    may-step : (command : Command) → Step command → MaySend setting d now command
+    may-step command (Looks at e may) = subst (λ c. MaySend setting d now c) (sym e) may
+    may-step command (Takes h e shown loose room) = subst (λ c. MaySend setting d now c) (sym e) (Lock (locks h shown loose room))
