@@ -1,5 +1,5 @@
 -- What a host may answer, by the kind of the command that it sent and by the response.
-use Rattle.std.specs.Prelude.{◌≡◌, ℕ, ◌/◌, List, [], ◌∷◌, ◌++◌, Option, None, Some, ⊤}
+use Rattle.std.specs.Prelude.{◌≡◌, ℕ, ◌/◌, ◌^◌, ◌≤◌, ◌⊎◌, List, [], ◌∷◌, ◌++◌, Option, None, Some, ⊤}
 use Rattle.std.specs.List.{Contains}
 use Rattle.ds_base.specs.Exchanges.{Exchange}
 use Rattle.ds_base.specs.declared.geometry.Geom.{Geom}
@@ -80,14 +80,18 @@ module _ (setting : Setting) (d : Digest) (now : ℕ) where
         → PlansReply setting.geom own (setting.plans own.slot (At file (sector / setting.geom.block))) (file.object ∷ []) d.exchanges reply
         → TellsReply own reply
 
+  -- a host that wants to leave its slot can't raise the generation
+  abbrev pub IsWornLeave : Own → Type 0
+  IsWornLeave own = (d.call ≡ Some calls.Unregister) × (2 ^ 62 ≤ own.generation)
+
   -- at a Swap of the own slot that goes on in its generation with an idle journal
   abbrev pub TellsBeat : Own → Option HostAnswer → Type 0
   TellsBeat own None = ⊤
   TellsBeat own (Some (Tree reply)) = TellsReply own reply
   TellsBeat own (Some (Registered slot generation)) = (d.call ≡ Some calls.Register) × (slot ≡ own.slot) × (generation ≡ own.generation)
   TellsBeat own (Some Plain) = IsPlainCall d.call
-  TellsBeat own (Some (Damaged at)) = IsDamaged setting own d.exchanges (IsPlanned setting.geom d.call) at
-  TellsBeat own (Some WornOut) = IsWornOut setting own d.exchanges (IsPlanned setting.geom d.call)
+  TellsBeat own (Some (Damaged at)) = IsDamaged setting own d.notes d.exchanges (IsPlanned setting.geom d.call) at
+  TellsBeat own (Some WornOut) = IsWornOut setting own d.exchanges (IsPlanned setting.geom d.call) ⊎ IsWornLeave own
   TellsBeat own (Some answer) = ⊥
 
   -- at one that finds another image in place: the host is fenced, or in a tail tells nothing

@@ -26,7 +26,9 @@ use Rattle.ds_tree.specs.declared.calls.CallOf.{CallOf}
 use Rattle.ds_watch.specs.Notes.{IsStale, Note}
 use Rattle.ds_conduct.specs.Digests.{Own}
 use Rattle.ds_conduct.specs.Exchanges.{MissAt, ReadAt}
+use Rattle.ds_conduct.specs.Guards.{SawOver}
 use Rattle.ds_conduct.specs.Headers.{IsOf}
+use Rattle.ds_conduct.specs.Judging.{IsJudged}
 use Rattle.ds_conduct.specs.Journals.{HasReadIndex, Sees}
 use Rattle.ds_conduct.specs.Settings.{Setting}
 
@@ -149,26 +151,35 @@ pub record IsOdd (setting : Setting) (own : Own) (xs : List Exchange) (call : Ca
   pub shown : (sector : Sector) × (look_of seen at ≡ Some sector)
   pub none : (image : List Sector) (t : FileTree) → StandsFor setting.geom image t → Agrees seen image → ⊥
 
+-- a slot that was read is lost: judged stale, or being broken by a generation that was shown to be over after it
+pub data IsLost (g : Geom) (notes : List Note) (xs : List Exchange) (slot : ℕ) (image : Slot) (reads : ReadsSlot g xs slot image) : Type 0 where
+  Stale : image.state ≡ states.Live → IsJudged notes slot reads.sector → IsLost g notes xs slot image reads
+  Seized : (by generation : ℕ) → image.state ≡ states.Breaking by generation → SawOver g (seen_of reads.read.later) by generation
+      → IsLost g notes xs slot image reads
+
 -- why a sector that was read is told as damaged
-pub data IsDamaged (setting : Setting) (own : Own) (xs : List Exchange) (IsPlanned : CallOf Key → List ℕ → Type 0) (at : ℕ) : Type 0 where
+pub data IsDamaged (setting : Setting) (own : Own) (notes : List Note) (xs : List Exchange) (IsPlanned : CallOf Key → List ℕ → Type 0) (at : ℕ) : Type 0 where
   BadHeader : (object : ℕ) (sector : Sector) → IsLock setting.geom object → at ≡ header_sector setting.geom object → ReadAt xs at sector
-      → header_if_of object (header_in sector.bytes) ≡ None → IsDamaged setting own xs IsPlanned at
+      → header_if_of object (header_in sector.bytes) ≡ None → IsDamaged setting own notes xs IsPlanned at
   BadSlot : (slot : ℕ) (sector : Sector) → slot < setting.geom.slots → at ≡ slot_sector setting.geom slot → ReadAt xs at sector
-      → slot_in slot sector.bytes ≡ None → IsDamaged setting own xs IsPlanned at
+      → slot_in slot sector.bytes ≡ None → IsDamaged setting own notes xs IsPlanned at
   BadOwner : (object : ℕ) (o : Owner) → at ≡ header_sector setting.geom object → ReadsOwner setting.geom xs object o
-      → NamesNobody setting.geom own o → IsDamaged setting own xs IsPlanned at
+      → NamesNobody setting.geom own o → IsDamaged setting own notes xs IsPlanned at
   BadOwnerSlot : (object : ℕ) (o : Owner) (image : Slot) (named : ReadsOwner setting.geom xs object o)
       → at ≡ header_sector setting.geom object
-      → ReadsSlot setting.geom named.reads.read.later o.slot image → IsAtOdds own o image → IsDamaged setting own xs IsPlanned at
+      → ReadsSlot setting.geom named.reads.read.later o.slot image → IsAtOdds own o image → IsDamaged setting own notes xs IsPlanned at
   BadBreaker : (slot by generation : ℕ) (image : Slot) → at ≡ slot_sector setting.geom slot → ReadsSlot setting.geom xs slot image
-      → image.state ≡ states.Breaking by generation → (setting.geom.slots ≤ by) ⊎ (by ≡ slot) → IsDamaged setting own xs IsPlanned at
+      → image.state ≡ states.Breaking by generation → (setting.geom.slots ≤ by) ⊎ (by ≡ slot) → IsDamaged setting own notes xs IsPlanned at
   BadIndex : (slot : ℕ) (image : Slot) (txn count : ℕ) (sector : Sector) → at ≡ place_sector setting.geom (places.Journal slot 31)
       → ReadsSlot setting.geom xs slot image → ReadAt xs at sector
       → ((index : Index) → IsIndex index → sector.bytes ≡ index_bytes index
       → HasReadIndex setting.geom xs slot image.generation txn count index → ⊥)
-      → IsDamaged setting own xs IsPlanned at
+      → IsDamaged setting own notes xs IsPlanned at
   BadSight : (call : CallOf Key) (first : List ℕ) → IsPlanned call first → IsOdd setting own xs call first at
-      → IsDamaged setting own xs IsPlanned at
+      → IsDamaged setting own notes xs IsPlanned at
+  -- as long as hosts break no slot, one that is lost is told so
+  Unbroken : (slot : ℕ) (image : Slot) (reads : ReadsSlot setting.geom xs slot image) → at ≡ slot_sector setting.geom slot → slot ≢ own.slot
+      → IsLost setting.geom notes xs slot image reads → IsDamaged setting own notes xs IsPlanned at
 
 -- the planner names the descriptor of a new object whose births are used up
 pub record IsWornPlan (setting : Setting) (own : Own) (xs : List Exchange) (call : CallOf Key) (first : List ℕ) : Type 0 where

@@ -1,12 +1,12 @@
 -- What a response makes of the stage at which it came.
-use Rattle.std.proofs.Common.{◌≡◌, ℕ, inr, List, [], ◌∷◌, refl, sym, ap, subst}
+use Rattle.std.proofs.Common.{◌≡◌, ℕ, inl, inr, List, [], ◌∷◌, refl, sym, ap, subst}
 use Rattle.ds_base.specs.Exchanges.{Exchange}
 use Rattle.ds_base.specs.declared.commands.Command.{Command}
 use Rattle.ds_base.specs.declared.commands.Command.TheVariants.{Read, Swap}
 use Rattle.ds_base.specs.declared.commands.Next.{Next}
 use Rattle.ds_base.specs.declared.commands.Next.TheVariants as nexts
 use Rattle.ds_base.specs.declared.commands.Response.{Response}
-use Rattle.ds_base.specs.declared.commands.Response.TheVariants.{Got, Done}
+use Rattle.ds_base.specs.declared.commands.Response.TheVariants.{Got, Done, Miscompare}
 use Rattle.ds_base.specs.declared.sectors.Sector.{Sector}
 use Rattle.ds_marks.specs.declared.header.Header.{Header}
 use Rattle.ds_marks.specs.declared.header.Owner.{Owner}
@@ -20,6 +20,7 @@ use Rattle.ds_lock.specs.declared.steps.Stage.TheVariants as stages
 use Rattle.ds_lock.specs.declared.steps.Wanted.{Wanted}
 use Rattle.ds_lock.specs.declared.steps.Went.{Went}
 use Rattle.ds_lock.specs.declared.steps.Went.TheVariants as went
+use Rattle.ds_lock.proofs.Shown.{shown-last}
 
 abbrev command_of : Next → Command
 command_of (nexts.Send command) = command
@@ -101,3 +102,22 @@ module _ (w : Wanted) (stage : Stage) (response : Response) (command : Command) 
       from w stage response command notes now pass (went.Ended ends.Got) (stages.Taking h) Done
       (Swap (lock_sector w.geom w.object) (header_image h) (header_image (taken_from w.own h))) e0 e1 refl due
       (tt, inr (record { header = h; tick = now; earlier = pass; newest = refl; shown = shown.0; loose = shown.1; room = shown.2 }))
+
+  -- or it found another header in place
+  pub missed-goes : (h : Header) (offset : ℕ) → stage ≡ stages.Taking h → response ≡ Miscompare offset
+      → due_at w stage ≡ nexts.Send command → HasSeen w stage pass
+      → From w stage response command notes now pass went.Missed stage response command
+  missed-goes h offset e0 e1 due seen =
+      let shown = subst (λ v. HasSeen w v pass) e0 seen in
+      from w stage response command notes now pass went.Missed (stages.Taking h) (Miscompare offset)
+      (Swap (lock_sector w.geom w.object) (header_image h) (header_image (taken_from w.own h))) e0 e1 refl due
+      (record {
+        at = lock_sector w.geom w.object;
+        verify = header_image h;
+        fresh = header_image (taken_from w.own h);
+        offset = offset;
+        tick = now;
+        is = refl;
+        contended = inl refl;
+        last = shown-last w pass h shown.0;
+      })

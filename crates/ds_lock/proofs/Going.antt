@@ -1,8 +1,6 @@
 -- Where what was read leads.
-use Rattle.std.proofs.Common.{◌≡◌, ◌≢◌, ℕ, ◌<◌, List, ◌∷◌, Some, None, refl, sym, subst, arith}
-use Rattle.ds_base.specs.Exchanges.{Exchange, IsLast, seen_of}
-use Rattle.ds_base.specs.declared.commands.Command.TheVariants.{Read}
-use Rattle.ds_base.specs.declared.commands.Response.TheVariants.{Got}
+use Rattle.std.proofs.Common.{◌≡◌, ℕ, ◌<◌, List, [], ◌∷◌, Some, None, refl, sym, ap, subst, arith}
+use Rattle.ds_base.specs.Exchanges.{Exchange}
 use Rattle.ds_base.specs.declared.sectors.Sector.{Sector}
 use Rattle.ds_marks.specs.Header.{IsHeader, header_bytes}
 use Rattle.ds_marks.specs.HeaderIn.{header_if_of, header_in}
@@ -13,15 +11,15 @@ use Rattle.ds_marks.specs.declared.header.Owner.{Owner}
 use Rattle.ds_marks.specs.declared.slot.Slot.{Slot}
 use Rattle.ds_marks.specs.declared.slot.SlotState.TheVariants as states
 use Rattle.ds_watch.specs.Notes.{Note}
-use Rattle.ds_lock.specs.Locking.{BadBreaker, BadHeader, BadOwner, BadOwnerSlot, BadSlot, BreaksNothing, Empty, IsAtOdds, IsDamaged, IsOwned, IsOwnedBy, IsShown, IsSlotShown, NamesNobody, header_image, lock_sector, slot_image, slot_sector}
+use Rattle.ds_lock.specs.Locking.{BadBreaker, BadHeader, BadOwner, BadOwnerSlot, BadSlot, BreaksNothing, Empty, IsAtOdds, IsDamaged, IsOwned, IsOwnedBy, IsShown, IsSlotNewest, NamesNobody, header_image, lock_sector, read_of, slot_image, slot_sector}
 use Rattle.ds_lock.specs.Stages.{Goes}
 use Rattle.ds_lock.specs.declared.ends.LockEnd.TheVariants as ends
 use Rattle.ds_lock.specs.declared.steps.Wanted.{Wanted}
 use Rattle.ds_lock.specs.declared.steps.Went.{Went}
 use Rattle.ds_lock.specs.declared.steps.Went.TheVariants as went
-use Rattle.ds_lock.proofs.Shown.{last-now, owned-past, slot-past}
+use Rattle.ds_lock.proofs.Shown.{Contains-none}
 
-same_sector : (a b : Sector) → a.bytes ≡ b.bytes → a ≡ b
+pub same_sector : (a b : Sector) → a.bytes ≡ b.bytes → a ≡ b
 same_sector a b e = grind (arith, e)
 
 module _ (w : Wanted) (notes : List Note) (now : ℕ) (pass : List Exchange) where
@@ -38,15 +36,15 @@ module _ (w : Wanted) (notes : List Note) (now : ℕ) (pass : List Exchange) whe
   -- its slot is at odds
   pub bad-slot : (next : Went) (h : Header) (o : Owner) (s : Slot) → next ≡ went.Ended (ends.Damaged (lock_sector w.geom w.object))
       → IsAtOdds w o s
-      → IsOwned w pass h o → IsSlotShown w pass o.slot s → Goes w notes now pass next
-  bad-slot next h o s is odds owned shown = damaged next (lock_sector w.geom w.object) is (BadOwnerSlot h o s refl owned shown odds)
+      → IsOwned w pass h o → IsSlotNewest w now pass o.slot s → Goes w notes now pass next
+  bad-slot next h o s is odds owned read = damaged next (lock_sector w.geom w.object) is (BadOwnerSlot h o s now refl owned read odds)
 
   pub empty-slot : (next : Went) (h : Header) (slot : ℕ) (s : Slot) → next ≡ went.Ended (ends.Damaged (lock_sector w.geom w.object))
       → s.state ≡ states.Free
-      → IsOwnedBy w pass h slot s → Goes w notes now pass next
-  empty-slot next h slot s is free by =
-      bad-slot next h by.owner s is (Empty by.same_generation free) by.names (subst (λ n. IsSlotShown w pass n s)
-      (sym by.same_slot) by.shown)
+      → IsOwnedBy w pass h slot s → IsSlotNewest w now pass slot s → Goes w notes now pass next
+  empty-slot next h slot s is free by read =
+      bad-slot next h by.owner s is (Empty by.same_generation free) by.names (subst (λ n. IsSlotNewest w now pass n s)
+      (sym by.same_slot) read)
 
   -- the breaker is none
   pub bad-breaker : (next : Went) (h : Header) (slot by generation : ℕ) (s : Slot)
@@ -57,7 +55,7 @@ module _ (w : Wanted) (notes : List Note) (now : ℕ) (pass : List Exchange) whe
 
 module _ (w : Wanted) (notes : List Note) (now tick : ℕ) (pass : List Exchange) (sector : Sector) where
   abbrev read : ℕ → List Exchange
-  read at = record { command = Read at; response = Got sector; tick = tick } ∷ pass
+  read at = read_of at sector tick ∷ pass
 
   pub no-header : (next : Went) → next ≡ went.Ended (ends.Damaged (lock_sector w.geom w.object))
       → header_if_of w.object (header_in sector.bytes) ≡ None
@@ -78,35 +76,23 @@ module _ (w : Wanted) (notes : List Note) (now tick : ℕ) (pass : List Exchange
 
   -- what was read is shown
   pub header-now : (h : Header) → (h.object ≡ w.object) × IsHeader h × (sector.bytes ≡ header_bytes h)
-      → IsShown w (read (lock_sector w.geom w.object)) h
+      → IsShown w (read_of (lock_sector w.geom w.object) sector tick ∷ []) h
   header-now h spelled = record {
-    last = subst (IsLast (seen_of (read (lock_sector w.geom w.object))) (lock_sector w.geom w.object)) (same_sector sector
-        (header_image h) spelled.2)
-        (last-now (seen_of pass) (lock_sector w.geom w.object) sector);
+    later = [];
+    tick = tick;
+    parts = ap (λ t. read_of (lock_sector w.geom w.object) t tick ∷ []) (same_sector sector (header_image h) spelled.2);
+    apart = λ other has. Contains-none (lock_sector w.geom w.object, other) has;
     is_header = spelled.1;
     same_object = spelled.0;
   }
 
-  pub slot-now : (slot : ℕ) (s : Slot) → slot < w.geom.slots → IsSlot s × (sector.bytes ≡ slot_bytes slot s)
-      → IsSlotShown w (read (slot_sector w.geom slot)) slot s
+  abbrev pub slot-now : (slot : ℕ) (s : Slot) → slot < w.geom.slots → IsSlot s × (sector.bytes ≡ slot_bytes slot s)
+      → IsSlotNewest w tick (read (slot_sector w.geom slot)) slot s
   slot-now slot s within spelled = record {
     within = within;
-    last = subst (IsLast (seen_of (read (slot_sector w.geom slot))) (slot_sector w.geom slot)) (same_sector sector
-        (slot_image slot s) spelled.1)
-        (last-now (seen_of pass) (slot_sector w.geom slot) sector);
+    earlier = pass;
+    newest = ap (λ t. read_of (slot_sector w.geom slot) t tick ∷ pass) (same_sector sector (slot_image slot s) spelled.1);
     is_slot = spelled.0;
-  }
-
-  -- the owner stays shown while the slot is read that breaks its own
-  pub owned-by-past : (h : Header) (slot by : ℕ) (s : Slot) → by < w.geom.slots → by ≢ slot → IsOwnedBy w pass h slot s
-      → IsOwnedBy w (read (slot_sector w.geom by)) h slot s
-  owned-by-past h slot by s within differs owned = record {
-    owner = owned.owner;
-    names = owned-past w pass tick by sector within h owned.owner owned.names;
-    same_slot = owned.same_slot;
-    shown = slot-past w pass tick by sector within slot s differs owned.shown;
-    same_generation = owned.same_generation;
-    other = owned.other;
   }
 
 pub same-image : (slot : ℕ) (sector : Sector) (s : Slot) → sector.bytes ≡ slot_bytes slot s → sector ≡ slot_image slot s

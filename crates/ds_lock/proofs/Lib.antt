@@ -1,4 +1,5 @@
 pub mod Shown
+pub mod Order
 pub mod Going
 pub mod Passes
 pub mod Answering

@@ -1,14 +1,12 @@
 -- How a pass grows, and what a Swap that misses makes of it.
 use Rattle.std.proofs.Common.{◌≡◌, ℕ, ◌^◌, ◌<◌, ◌⊎◌, inl, inr, Bool, true, false, List, [], ◌∷◌, ◌++◌, Option, Some, None, refl, sym, ap, subst, ◌∙◌, append_assoc}
-use Rattle.std.specs.List.{Contains}
 use Rattle.ds_base.specs.Exchanges.{Exchange, IsLast, seen_of}
 use Rattle.ds_base.specs.declared.commands.Command.TheVariants.{Swap}
 use Rattle.ds_base.specs.declared.commands.Response.TheVariants.{Miscompare}
-use Rattle.ds_base.specs.declared.sectors.Sector.{Sector}
 use Rattle.ds_marks.specs.declared.header.Header.{Header}
 use Rattle.ds_marks.specs.declared.slot.Slot.{Slot}
 use Rattle.ds_watch.specs.Notes.{Note}
-use Rattle.ds_lock.specs.Locking.{Cause, HasNoMiss, IsNoMiss, IsOwnedBy, IsRaced, IsSlotShown, IsToBreak, Misses, Over, header_image, lock_sector, slot_image, slot_sector}
+use Rattle.ds_lock.specs.Locking.{Cause, HasNoMiss, IsNoMiss, IsOwnedBy, IsRaced, IsSlotShown, IsToBreak, IsUnshown, Misses, Over, slot_image, slot_sector}
 use Rattle.ds_lock.specs.Stages.{Agrees, FitsWent, HasEnded, HasFreed, HasMissed, HasSeen, IsPass, Leads, LockValue, StandsAfter, Told}
 use Rattle.ds_lock.specs.declared.ends.LockEnd.{LockEnd}
 use Rattle.ds_lock.specs.declared.ends.LockEnd.TheVariants as ends
@@ -17,7 +15,7 @@ use Rattle.ds_lock.specs.declared.steps.Stage.{Stage}
 use Rattle.ds_lock.specs.declared.steps.Stage.TheVariants as stages
 use Rattle.ds_lock.specs.declared.steps.Wanted.{Wanted}
 use Rattle.ds_lock.specs.declared.steps.Went.TheVariants as went
-use Rattle.ds_lock.proofs.Shown.{last-lifts, last-stays}
+use Rattle.ds_lock.proofs.Shown.{last-lifts, last-stays, read-shown, shown-more}
 
 none-missed : (xs ys : List Exchange) → HasNoMiss xs → HasNoMiss ys → HasNoMiss (xs ++ ys)
 none-missed [] ys none nor = nor
@@ -136,14 +134,10 @@ module _ (w : Wanted) (slot : ℕ) (s : Slot) (xs pass broke : List Exchange) (m
     pass = broke ++ pass;
     is_pass = grown w missed broke xs pass freed.none_missed is;
     seen = (
-      record {
-        last = last-stays broke pass (lock_sector w.geom w.object) (header_image h) freed.apart seen.0.names.shown.last;
-        is_header = seen.0.names.shown.is_header;
-        same_object = seen.0.names.shown.same_object;
-      },
+      shown-more w broke pass h freed.apart seen.0.names.shown,
       Over seen.0.owner freed.image seen.0.names.owned
           (subst (λ n. IsSlotShown w (broke ++ pass) n freed.image) (sym seen.0.same_slot) (record {
-            within = seen.0.shown.within;
+            within = seen.0.read.within;
             last = last-lifts broke pass (slot_sector w.geom slot) (slot_image slot freed.image) freed.last;
             is_slot = freed.is_slot;
           }))
@@ -167,7 +161,7 @@ module _ (w : Wanted) (slot : ℕ) (s : Slot) (xs pass broke : List Exchange) (m
         offset = miss.offset;
         tick = miss.tick;
         is = refl;
-        contended = inr (slot, seen.0.shown.within, refl);
+        contended = inr (slot, seen.0.read.within, refl);
         last = verified miss.verified;
       }))
     where
@@ -175,11 +169,11 @@ module _ (w : Wanted) (slot : ℕ) (s : Slot) (xs pass broke : List Exchange) (m
       swap = record { command = Swap (slot_sector w.geom slot) miss.verify miss.fresh; response = Miscompare miss.offset; tick = miss.tick }
 
       verified : (IsLast (seen_of miss.earlier) (slot_sector w.geom slot) miss.verify)
-          ⊎ ((miss.verify ≡ slot_image slot s) × ((other : Sector) → Contains (seen_of miss.earlier) (slot_sector w.geom slot, other) → ⊥))
+          ⊎ ((miss.verify ≡ slot_image slot s) × IsUnshown miss.earlier (slot_sector w.geom slot))
           → IsLast (seen_of (miss.earlier ++ pass)) (slot_sector w.geom slot) miss.verify
       verified (inl last) = last-lifts miss.earlier pass (slot_sector w.geom slot) miss.verify last
       verified (inr begun) = last-stays miss.earlier pass (slot_sector w.geom slot) miss.verify begun.1
-          (subst (IsLast (seen_of pass) (slot_sector w.geom slot)) (sym begun.0) seen.0.shown.last)
+          (subst (IsLast (seen_of pass) (slot_sector w.geom slot)) (sym begun.0) (read-shown w pass slot s seen.0.read).last)
 
 abbrev header_of : Stage → Header → Header
 header_of (stages.Broken h slot s) other = h

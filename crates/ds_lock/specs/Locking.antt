@@ -1,6 +1,7 @@
 -- What the taking of a lock has sent and heard when it ends so. A pass is what was sent and heard since it began, or since a Swap missed;
 -- the newest exchange stands first.
 use Rattle.std.specs.Prelude.{◌≡◌, ◌≢◌, ℕ, ◌+◌, ◌^◌, ◌<◌, ◌≤◌, ◌⊎◌, List, [], ◌∷◌, ◌++◌, Some, None, ⊤}
+use Rattle.std.specs.List.{Contains}
 use Rattle.ds_base.specs.Exchanges.{Exchange, IsLast, seen_of}
 use Rattle.ds_base.specs.declared.commands.Command.TheVariants.{Read, Swap}
 use Rattle.ds_base.specs.declared.commands.Response.{Response}
@@ -39,9 +40,20 @@ slot_image slot s = record { bytes = slot_bytes slot s }
 abbrev pub taken_from : Owner → Header → Header
 taken_from own h = record { object = h.object; generation = h.generation + 1; owner = Some own }
 
--- this header was shown last
+-- a Read of this sector that gave this
+abbrev pub read_of : ℕ → Sector → ℕ → Exchange
+read_of at sector tick = record { command = Read at; response = Got sector; tick = tick }
+
+-- nothing was shown of this sector
+abbrev pub IsUnshown : List Exchange → ℕ → Type 0
+IsUnshown xs at = (sector : Sector) → Contains (seen_of xs) (at, sector) → ⊥
+
+-- the pass began with a Read that gave this header, and the header wasn't shown since
 pub record IsShown (w : Wanted) (pass : List Exchange) (h : Header) : Type 0 where
-  pub last : IsLast (seen_of pass) (lock_sector w.geom w.object) (header_image h)
+  pub later : List Exchange
+  pub tick : ℕ
+  pub parts : pass ≡ later ++ read_of (lock_sector w.geom w.object) (header_image h) tick ∷ []
+  pub apart : IsUnshown later (lock_sector w.geom w.object)
   pub is_header : IsHeader h
   pub same_object : h.object ≡ w.object
 
@@ -56,6 +68,23 @@ pub record IsSlotShown (w : Wanted) (pass : List Exchange) (slot : ℕ) (s : Slo
   pub last : IsLast (seen_of pass) (slot_sector w.geom slot) (slot_image slot s)
   pub is_slot : IsSlot s
 
+-- a Read of the slot gave this, and the slot wasn't shown since
+pub record IsSlotRead (w : Wanted) (pass : List Exchange) (slot : ℕ) (s : Slot) : Type 0 where
+  pub within : slot < w.geom.slots
+  pub later : List Exchange
+  pub tick : ℕ
+  pub earlier : List Exchange
+  pub parts : pass ≡ later ++ read_of (slot_sector w.geom slot) (slot_image slot s) tick ∷ earlier
+  pub apart : IsUnshown later (slot_sector w.geom slot)
+  pub is_slot : IsSlot s
+
+-- the newest exchange is a Read of the slot, at this tick, that gave this
+pub record IsSlotNewest (w : Wanted) (tick : ℕ) (pass : List Exchange) (slot : ℕ) (s : Slot) : Type 0 where
+  pub within : slot < w.geom.slots
+  pub earlier : List Exchange
+  pub newest : pass ≡ read_of (slot_sector w.geom slot) (slot_image slot s) tick ∷ earlier
+  pub is_slot : IsSlot s
+
 -- nobody has the lock: the header names no owner, or one whose slot is in a later generation
 pub data IsLoose (w : Wanted) (pass : List Exchange) (h : Header) : Type 0 where
   Unowned : h.owner ≡ None → IsLoose w pass h
@@ -66,15 +95,24 @@ pub record IsOwnedBy (w : Wanted) (pass : List Exchange) (h : Header) (slot : �
   pub owner : Owner
   pub names : IsOwned w pass h owner
   pub same_slot : owner.slot ≡ slot
-  pub shown : IsSlotShown w pass slot s
+  pub read : IsSlotRead w pass slot s
   pub same_generation : s.generation ≡ owner.generation
   pub other : slot ≢ w.own.slot
 
+-- the slot that breaks this one was read just now, after this one was read in the generation that has the lock
+pub record IsBreakerRead (w : Wanted) (now : ℕ) (pass : List Exchange) (h : Header) (slot : ℕ) (s : Slot) (by generation : ℕ)
+    (breaker : Slot) : Type 0 where
+  pub read : IsSlotNewest w now pass by breaker
+  pub owned : IsOwnedBy w read.earlier h slot s
+  pub breaking : s.state ≡ states.Breaking by generation
+  pub other : by ≢ slot
+
 -- that generation is lost: its slot is stale, or the generation that was breaking it is over
-pub data IsLost (w : Wanted) (notes : List Note) (now : ℕ) (pass : List Exchange) (slot : ℕ) (s : Slot) : Type 0 where
-  Stale : s.state ≡ states.Live → IsStale notes slot (slot_image slot s) now → IsLost w notes now pass slot s
-  Seized : (by generation : ℕ) (breaker : Slot) → s.state ≡ states.Breaking by generation → IsSlotShown w pass by breaker
-      → generation < breaker.generation → IsLost w notes now pass slot s
+pub data IsLost (w : Wanted) (notes : List Note) (now : ℕ) (pass : List Exchange) (h : Header) (slot : ℕ) (s : Slot) : Type 0 where
+  Stale : IsSlotNewest w now pass slot s → s.state ≡ states.Live → IsStale notes slot (slot_image slot s) now
+      → IsLost w notes now pass h slot s
+  Seized : (by generation : ℕ) (breaker : Slot) → IsBreakerRead w now pass h slot s by generation breaker
+      → generation < breaker.generation → IsLost w notes now pass h slot s
 
 -- the header names the host's own generation
 pub record HasLock (w : Wanted) (pass : List Exchange) : Type 0 where
@@ -98,41 +136,40 @@ pub record TakesLock (w : Wanted) (pass : List Exchange) : Type 0 where
   pub loose : IsLoose w earlier header
   pub room : header.generation < 2 ^ 62
 
--- the slot is live in the generation that has the lock, and isn't stale
+-- the slot, read just now, is live in the generation that has the lock, and isn't stale
 pub record IsHeld (w : Wanted) (notes : List Note) (now : ℕ) (pass : List Exchange) (slot : ℕ) (s : Slot) : Type 0 where
   pub header : Header
   pub by : IsOwnedBy w pass header slot s
+  pub read : IsSlotNewest w now pass slot s
   pub live : s.state ≡ states.Live
   pub alive : IsStale notes slot (slot_image slot s) now → ⊥
 
 -- the generation that has the lock is being broken, by one that isn't over
-pub record IsRecovering (w : Wanted) (pass : List Exchange) (slot : ℕ) (s breaker : Slot) : Type 0 where
+pub record IsRecovering (w : Wanted) (now : ℕ) (pass : List Exchange) (slot : ℕ) (s breaker : Slot) : Type 0 where
   pub header : Header
-  pub by : IsOwnedBy w pass header slot s
-  pub breaks : ℕ
+  pub by : ℕ
   pub generation : ℕ
-  pub breaking : s.state ≡ states.Breaking breaks generation
-  pub shown : IsSlotShown w pass breaks breaker
+  pub read : IsBreakerRead w now pass header slot s by generation breaker
   pub stands : breaker.generation ≤ generation
 
 -- the generation that has the lock is lost, and its slot can be turned free
 pub record IsToBreak (w : Wanted) (notes : List Note) (now : ℕ) (pass : List Exchange) (h : Header) (slot : ℕ) (s : Slot) : Type 0 where
   pub by : IsOwnedBy w pass h slot s
-  pub lost : IsLost w notes now pass slot s
+  pub lost : IsLost w notes now pass h slot s
   pub room : h.generation < 2 ^ 62
   pub slot_room : s.generation < 2 ^ 62
 
 -- a generation that would be raised is at its end
 pub data IsSpent (w : Wanted) (notes : List Note) (now : ℕ) (pass : List Exchange) : Type 0 where
   Untaken : (h : Header) → IsShown w pass h → IsLoose w pass h → 2 ^ 62 ≤ h.generation → IsSpent w notes now pass
-  Unbroken : (h : Header) (slot : ℕ) (s : Slot) → IsOwnedBy w pass h slot s → IsLost w notes now pass slot s
+  Unbroken : (h : Header) (slot : ℕ) (s : Slot) → IsOwnedBy w pass h slot s → IsLost w notes now pass h slot s
       → (2 ^ 62 ≤ h.generation) ⊎ (2 ^ 62 ≤ s.generation) → IsSpent w notes now pass
 
 -- the newest exchange read this
 pub record IsRead (pass : List Exchange) (at : ℕ) (sector : Sector) : Type 0 where
   pub tick : ℕ
   pub earlier : List Exchange
-  pub newest : pass ≡ record { command = Read at; response = Got sector; tick = tick } ∷ earlier
+  pub newest : pass ≡ read_of at sector tick ∷ earlier
 
 -- the header spells nothing
 pub record SpellsNoHeader (w : Wanted) (pass : List Exchange) : Type 0 where
@@ -172,8 +209,8 @@ pub data IsDamaged (w : Wanted) (pass : List Exchange) (at : ℕ) : Type 0 where
   BadHeader : at ≡ lock_sector w.geom w.object → SpellsNoHeader w pass → IsDamaged w pass at
   BadSlot : (slot : ℕ) → at ≡ slot_sector w.geom slot → SpellsNoSlot w pass slot → IsDamaged w pass at
   BadOwner : (h : Header) (o : Owner) → at ≡ lock_sector w.geom w.object → IsOwned w pass h o → NamesNobody w o → IsDamaged w pass at
-  BadOwnerSlot : (h : Header) (o : Owner) (s : Slot) → at ≡ lock_sector w.geom w.object → IsOwned w pass h o → IsSlotShown w pass o.slot s
-      → IsAtOdds w o s → IsDamaged w pass at
+  BadOwnerSlot : (h : Header) (o : Owner) (s : Slot) (tick : ℕ) → at ≡ lock_sector w.geom w.object → IsOwned w pass h o
+      → IsSlotNewest w tick pass o.slot s → IsAtOdds w o s → IsDamaged w pass at
   BadBreaker : (h : Header) (slot by generation : ℕ) (s : Slot) → at ≡ slot_sector w.geom slot → IsOwnedBy w pass h slot s
       → s.state ≡ states.Breaking by generation → BreaksNothing w slot by → IsDamaged w pass at
 
@@ -188,7 +225,7 @@ pub record HasFaulted (pass : List Exchange) : Type 0 where
 abbrev pub Cause : Wanted → List Note → ℕ → List Exchange → LockEnd → Type 0
 Cause w notes now pass ends.Got = HasLock w pass ⊎ TakesLock w pass
 Cause w notes now pass (ends.Busy (Held slot s)) = IsHeld w notes now pass slot s
-Cause w notes now pass (ends.Busy (Recovering slot s breaker)) = IsRecovering w pass slot s breaker
+Cause w notes now pass (ends.Busy (Recovering slot s breaker)) = IsRecovering w now pass slot s breaker
 Cause w notes now pass (ends.Busy Raced) = ⊥
 Cause w notes now pass (ends.Damaged sector) = IsDamaged w pass sector
 Cause w notes now pass ends.WornOut = IsSpent w notes now pass

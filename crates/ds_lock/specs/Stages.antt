@@ -1,6 +1,5 @@
 -- What the taking of a lock has sent and heard at each stage, and what it sends next.
 use Rattle.std.specs.Prelude.{◌≡◌, ◌≢◌, ℕ, ◌+◌, ◌^◌, ◌<◌, ◌⊎◌, ◌==◌, if◌then◌else◌, Bool, true, false, List, [], ◌∷◌, Option, Some, None, ⊤}
-use Rattle.std.specs.List.{Contains}
 use Rattle.ds_base.specs.Exchanges.{Exchange, IsLast, seen_of}
 use Rattle.ds_base.specs.Geometry.{IsGeom}
 use Rattle.ds_base.specs.declared.commands.Command.TheVariants.{Read, Swap}
@@ -16,7 +15,7 @@ use Rattle.ds_marks.specs.declared.header.Header.{Header}
 use Rattle.ds_marks.specs.declared.slot.Slot.{Slot}
 use Rattle.ds_marks.specs.declared.slot.SlotState.TheVariants as states
 use Rattle.ds_watch.specs.Notes.{Note}
-use Rattle.ds_lock.specs.Locking.{Cause, HasNoMiss, IsAfterMiss, IsEarlier, IsLoose, IsNoMiss, IsOwned, IsOwnedBy, IsRaced, IsShown, IsToBreak, Misses, header_image, lock_sector, slot_image, slot_sector, taken_from}
+use Rattle.ds_lock.specs.Locking.{Cause, HasNoMiss, IsAfterMiss, IsEarlier, IsLoose, IsNoMiss, IsOwned, IsOwnedBy, IsRaced, IsShown, IsToBreak, IsUnshown, Misses, header_image, lock_sector, slot_image, slot_sector, taken_from}
 use Rattle.ds_lock.specs.declared.ends.LockEnd.{LockEnd}
 use Rattle.ds_lock.specs.declared.ends.LockEnd.TheVariants as ends
 use Rattle.ds_lock.specs.declared.how.How.TheVariants.{Raced}
@@ -174,14 +173,14 @@ pub record HasFreed (w : Wanted) (slot : ℕ) (s : Slot) (xs : List Exchange) : 
   pub is_slot : IsSlot image
   pub last : IsLast (seen_of xs) (slot_sector w.geom slot) (slot_image slot image)
   pub over : s.generation < image.generation
-  pub apart : (sector : Sector) → Contains (seen_of xs) (lock_sector w.geom w.object, sector) → ⊥
+  pub apart : IsUnshown xs (lock_sector w.geom w.object)
   pub none_missed : HasNoMiss xs
 
 -- what a break verifies: what it saw there last itself, or the image that it began with
 abbrev pub IsVerified : Wanted → ℕ → Slot → List Exchange → Sector → Type 0
 IsVerified w slot s xs verify =
     IsLast (seen_of xs) (slot_sector w.geom slot) verify
-    ⊎ ((verify ≡ slot_image slot s) × ((other : Sector) → Contains (seen_of xs) (slot_sector w.geom slot, other) → ⊥))
+    ⊎ ((verify ≡ slot_image slot s) × IsUnshown xs (slot_sector w.geom slot))
 
 -- exchanges of a break whose newest is a Swap of the slot that found another image in place
 pub record HasMissed (w : Wanted) (slot : ℕ) (s : Slot) (xs : List Exchange) : Type 0 where

@@ -4,7 +4,7 @@ ghost use Rattle.ds_base.specs.Exchanges.{Exchange};
 ghost use Rattle.ds_marks.specs.declared.slot.SlotState.TheVariants as states;
 ghost use Rattle.ds_watch.specs.Notes.{IsStale, Note};
 ghost use Rattle.ds_watch.specs.Remembering.{Remembers};
-ghost use Rattle.ds_lock.specs.Locking.{IsEarlier, IsLoose, IsLost, IsOwned, IsOwnedBy, IsShown, IsSlotShown, slot_image};
+ghost use Rattle.ds_lock.specs.Locking.{IsBreakerRead, IsEarlier, IsLoose, IsLost, IsOwned, IsOwnedBy, IsShown, IsSlotNewest, slot_image};
 ghost use Rattle.ds_lock.specs.Stages.{FitsHeader, FitsWent, Goes, left_after, IsWanted, with_note};
 
 use crate::ends::LockEnd;
@@ -33,7 +33,7 @@ impl Wanted {
     fn lost(&self, header: &Header, slot: SlotNo, image: &Slot) -> Went
         requires { FitsHeader self.now header.now }
         ensures goes { (notes : List Note) (now : ℕ) (pass : List Exchange) → IsOwnedBy self.now pass header.now slot image.now
-            → IsLost self.now notes now pass slot image.now → Goes self.now notes now pass result }
+            → IsLost self.now notes now pass header.now slot image.now → Goes self.now notes now pass result }
         ensures fits { FitsWent self.now result }
         ensures nearer { left_after result ≡ 0 }
     {
@@ -53,7 +53,7 @@ impl Wanted {
         requires header { FitsHeader self.now header.now }
         requires within { owner.now.slot < self.now.geom.slots }
         ensures goes { (notes : List Note) (now : ℕ) (pass : List Exchange) → IsOwned self.now pass header.now owner.now → IsEarlier self.now owner.now
-            → IsSlotShown self.now pass owner.now.slot image.now
+            → IsSlotNewest self.now now pass owner.now.slot image.now
             → (owner.now.slot ≢ self.now.own.slot → IsTrue stale ↔ IsStale notes owner.now.slot (slot_image owner.now.slot image.now) now)
             → Goes self.now notes now pass result }
         ensures fits { FitsWent self.now result }
@@ -77,7 +77,8 @@ impl Wanted {
         requires header { FitsHeader self.now header.now }
         requires within { slot < self.now.geom.slots }
         ensures goes { (notes : List Note) (now : ℕ) (pass : List Exchange) → IsOwnedBy self.now pass header.now slot image.now
-            → (IsTrue stale ↔ IsStale notes slot (slot_image slot image.now) now) → Goes self.now notes now pass result }
+            → IsSlotNewest self.now now pass slot image.now → (IsTrue stale ↔ IsStale notes slot (slot_image slot image.now) now)
+            → Goes self.now notes now pass result }
         ensures fits { FitsWent self.now result }
         ensures nearer { left_after result < 3 }
     {
@@ -99,7 +100,8 @@ impl Wanted {
         requires header { FitsHeader self.now header.now }
         requires live { image.now.state ≡ states.Live }
         ensures goes { (notes : List Note) (now : ℕ) (pass : List Exchange) → IsOwnedBy self.now pass header.now slot image.now
-            → (IsTrue stale ↔ IsStale notes slot (slot_image slot image.now) now) → Goes self.now notes now pass result }
+            → IsSlotNewest self.now now pass slot image.now → (IsTrue stale ↔ IsStale notes slot (slot_image slot image.now) now)
+            → Goes self.now notes now pass result }
         ensures fits { FitsWent self.now result }
         ensures nearer { left_after result < 3 }
     {
@@ -156,8 +158,8 @@ impl Wanted {
         breaker: &Slot,
     ) -> Went
         requires { FitsHeader self.now header.now }
-        ensures goes { (notes : List Note) (now : ℕ) (pass : List Exchange) (by : ℕ) → IsOwnedBy self.now pass header.now slot image.now
-            → image.now.state ≡ states.Breaking by by_generation → IsSlotShown self.now pass by breaker.now → Goes self.now notes now pass result }
+        ensures goes { (notes : List Note) (now : ℕ) (pass : List Exchange) (by : ℕ)
+            → IsBreakerRead self.now now pass header.now slot image.now by by_generation breaker.now → Goes self.now notes now pass result }
         ensures fits { FitsWent self.now result }
         ensures nearer { left_after result ≡ 0 }
     {

@@ -3,7 +3,7 @@ use Rattle.ds_base.specs.declared.commands.Next.TheVariants as nexts
 use Rattle.ds_lock.specs.Stages.{GoesBy, HasSeen, LockValue, due, notes_after, with_note}
 use Rattle.ds_lock.specs.declared.ends.LockEnd.TheVariants as ends
 use Rattle.ds_lock.specs.declared.steps.Went.TheVariants as went
-use Rattle.ds_lock.proofs.Answering.{breaker-goes, header-goes, owner-goes, taken-goes}
+use Rattle.ds_lock.proofs.Answering.{breaker-goes, header-goes, missed-goes, owner-goes, taken-goes}
 use Rattle.ds_lock.proofs.runs.LockRun.went.Goals as goal
 
 pub returns-in-Header-Got-clause-goes : goal.returns-in-Header-Got-clause-goes
@@ -46,3 +46,13 @@ returns-in-Taking-Done-clause-goes c = λ notes pass command remembers.
     c.self.view_is
     (taken-goes c.self.inside.wanted c.self.inside.stage c.args.response.now command notes c.args.now pass c.in-Taking-Done.header-0
     c.in-Taking-Done.is-0 c.in-Taking-Done.is-1)
+
+pub returns-in-Taking-Miscompare-clause-goes : goal.returns-in-Taking-Miscompare-clause-goes
+returns-in-Taking-Miscompare-clause-goes c = λ notes pass command remembers.
+    subst (λ (run : LockValue). due run ≡ nexts.Send command → HasSeen run.wanted run.stage pass
+    → GoesBy run.wanted (notes_after run c.args.response.now c.args.now notes) c.args.now
+    (record { command = command; response = c.args.response.now; tick = c.args.now }) pass went.Missed)
+    c.self.view_is
+    (missed-goes c.self.inside.wanted c.self.inside.stage c.args.response.now command notes c.args.now pass
+    c.in-Taking-Miscompare.header-0
+    c.in-Taking-Miscompare.offset-1 c.in-Taking-Miscompare.is-0 c.in-Taking-Miscompare.is-1)

@@ -1,5 +1,5 @@
 use Rattle.std.proofs.Common.{sym, ◌∙◌}
-use Rattle.ds_lock.proofs.Going.{no-slot, owned-by-past, slot-now}
+use Rattle.ds_lock.proofs.Going.{no-slot, slot-now}
 use Rattle.ds_lock.proofs.steps.Wanted.breaker_read.Goals as goal
 
 pub returns-in-None-clause-goes : goal.returns-in-None-clause-goes
@@ -9,9 +9,10 @@ returns-in-None-clause-goes c = λ notes pass seen.
 
 pub returns-in-Some-clause-goes : goal.returns-in-Some-clause-goes
 returns-in-Some-clause-goes c = λ notes pass seen.
-    c.breaker_shown.ensures.goes notes c.args.now _ c.args.by
-    (owned-by-past c.args.self.now notes c.args.now c.args.now pass c.args.sector.now c.args.header.now c.args.slot c.args.by
-    c.args.image.now c.requires.within seen.3 seen.0)
-    seen.1
-    (slot-now c.args.self.now notes c.args.now c.args.now pass c.args.sector.now c.args.by c.in-Some.breaker c.requires.within
-    ((c.decode.ensures.spelled c.in-Some.breaker).0 c.in-Some.is))
+    c.breaker_shown.ensures.goes notes c.args.now _ c.args.by (record {
+      read = slot-now c.args.self.now notes c.args.now c.args.now pass c.args.sector.now c.args.by c.in-Some.breaker c.requires.within
+          ((c.decode.ensures.spelled c.in-Some.breaker).0 c.in-Some.is);
+      owned = seen.0;
+      breaking = seen.1;
+      other = seen.3;
+    })
