@@ -19,15 +19,14 @@ use Rattle.ds_log.specs.declared.logs.Step.TheVariants.{Local, Sent}
 use Rattle.ds_log.specs.Turns.{Part, Begins, Goes, Aside, Turn, digest, last_tick, sectors_after, started}
 use Rattle.ds_log.specs.Volumes.{Volume, setting_of}
 
--- a command that may be sent, under the generation held, with the response of the device or with Fault, and with the answer that is
--- owed then; a command that landed has its effect
+-- a command that may be sent, under the generation held, with the response of the device or with Fault; a command that landed has
+-- its effect
 pub record IsSent (setting : Setting) (d : Digest) (now : ℕ) (sectors : List Sector) (under : Option (ℕ × ℕ)) (command : Command)
-    (response : Response) (landed took : Bool) (answer : Option HostAnswer) : Type 0 where
+    (response : Response) (landed took : Bool) : Type 0 where
   pub sends : Sends setting d now command
   pub held : under ≡ own_pair d.own
   pub responds : ((landed ≡ true) × device.Answers sectors command response) ⊎ (response ≡ Fault)
   pub effect : took ≡ (landed && takes_effect sectors command)
-  pub tells : Answers setting d now command response answer
 
 -- a plain write is due too late, and the answer is the one that is owed then
 pub record IsLate (setting : Setting) (d : Digest) (now : ℕ) (answer : Option HostAnswer) : Type 0 where
@@ -36,11 +35,16 @@ pub record IsLate (setting : Setting) (d : Digest) (now : ℕ) (answer : Option 
   pub due : IsTooLate setting d now at last
   pub tells : TellsLate d now answer
 
--- the command of a step, if it has one, is rightly sent and answered
-abbrev pub Obeys : Setting → Digest → ℕ → List Sector → Step → Option HostAnswer → Type 0
-Obeys setting d now sectors Local answer = ⊤
-Obeys setting d now sectors (Sent under command response landed took) answer =
-    IsSent setting d now sectors under command response landed took answer
+-- the command of a step, if it has one, is rightly sent
+abbrev pub Obeys : Setting → Digest → ℕ → List Sector → Step → Type 0
+Obeys setting d now sectors Local = ⊤
+Obeys setting d now sectors (Sent under command response landed took) =
+    IsSent setting d now sectors under command response landed took
+
+-- and rightly answered
+abbrev pub Tells : Setting → Digest → ℕ → Step → Option HostAnswer → Type 0
+Tells setting d now Local answer = ⊤
+Tells setting d now (Sent under command response landed took) answer = Answers setting d now command response answer
 
 -- a call begins where its host rests
 abbrev pub BeginsAtRest : Setting → Digest → Part → Type 0
@@ -70,7 +74,9 @@ module _ (volume : Volume) (start : List Sector) where
     pub in_time : last_tick past ≤ t.event.at
     pub at_rest : BeginsAtRest (setting_of volume t.event.host) (digest volume.geom t.event.host past) t.part
     pub obeys : Obeys (setting_of volume t.event.host) (started (digest volume.geom t.event.host past) t.part) t.event.at
-        (sectors_after start past) t.event.step t.answer
+        (sectors_after start past) t.event.step
+    pub tells : Tells (setting_of volume t.event.host) (started (digest volume.geom t.event.host past) t.part) t.event.at t.event.step
+        t.answer
     pub is_part : IsPart (setting_of volume t.event.host) (digest volume.geom t.event.host past) t.event.at t.part t.event.step t.answer
 
   pub record IsHistory (turns : List Turn) : Type 0 where
