@@ -8,3 +8,9 @@ pub mod History
 pub mod Headline
 pub mod Scripts
 pub mod Follows
+pub mod Volumes
+pub mod Turns
+pub mod Histories
+pub mod Standing
+pub mod Effects
+pub mod Fences

@@ -1,11 +1,10 @@
 -- The sectors of a device after the events of a log.
-use Rattle.std.specs.Prelude.{ℕ, ◌+◌, ◌==◌, ◌&&◌, ◌||◌, Bool, false, not, List, [], ◌∷◌, count_by, Option, Some, None, if◌then◌else◌}
+use Rattle.std.specs.Prelude.{ℕ, ◌+◌, ◌==◌, ◌&&◌, ◌||◌, Bool, false, List, [], ◌∷◌, count_by, Option, Some, None, if◌then◌else◌}
 use Rattle.ds_base.specs.declared.sectors.Sector.{Sector}
 use Rattle.ds_base.specs.declared.commands.Command.TheVariants.{Swap}
 use Rattle.ds_base.specs.Device.{stored}
 use Rattle.ds_marks.specs.SlotIn.{slot_in}
 use Rattle.ds_conduct.specs.Marks.{has_committed, has_idle}
-use Rattle.ds_marks.specs.declared.slot.Slot.{Slot}
 use Rattle.ds_log.specs.declared.logs.Step.{Step}
 use Rattle.ds_log.specs.declared.logs.Step.TheVariants.{Local, Sent}
 use Rattle.ds_log.specs.declared.logs.Event.{Event}
