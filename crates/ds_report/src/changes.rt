@@ -4,8 +4,8 @@ ghost use Rattle.ds_log.specs.Store.{is_change, commits_at, has_idle, has_commit
 
 use crate::slots::slot_in;
 use ds_base::{Command, Gen, Sector, SectorNo, SlotNo};
-use ds_marks::{Journal, Slot};
 use ds_log::Step;
+use ds_marks::{Journal, Slot};
 
 /// Whether a step is told as a commit.
 pub(crate) fn is_change(step: &Step) -> bool

@@ -7,9 +7,9 @@ use crate::answers::{write_answer, write_place};
 use crate::hosts::host_name;
 use crate::reads::write_read;
 use ds_base::{HostNo, NoMemory};
+use ds_log::{Event, Reply};
 use ds_text::Text;
 use ds_tree::{Directive, Scenario, call_word};
-use ds_log::{Event, Reply};
 
 /// Writes the line of a reply. The events are those up to the reply.
 pub(crate) fn write_line(

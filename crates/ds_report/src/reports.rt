@@ -15,9 +15,9 @@ use crate::listings::write_listing;
 use crate::replies::write_line;
 use crate::slots::write_slot_line;
 use ds_base::NoMemory;
+use ds_log::{Event, Log, Reply};
 use ds_text::Text;
 use ds_tree::{Scenario, Tree};
-use ds_log::{Event, Log, Reply};
 use std::alloc::Global;
 
 /// The report of a run of this scenario, from the log of the run and the tree that it left.

@@ -7,12 +7,12 @@ use crate::reports::whole;
 use ds_base::{Command, Gen, Geom, Key, NodeKind, Response, Sector, SlotNo, Word};
 use ds_conduct::{HostAnswer, Spot};
 use ds_lock::How;
+use ds_log::{Event, Reply, Step};
 use ds_marks::{Journal, Slot, SlotState};
 use ds_text::Text;
 use ds_tree::{
     CallOf, Directive, HostCallOf, HostPlan, Items, Point, Scenario, Spoken, Tree, TreeReply,
 };
-use ds_log::{Event, Reply, Step};
 use std::alloc::Global;
 use std::process::Abort;
 use std::test::Fail;

@@ -11,9 +11,9 @@ ghost use Rattle.ds_top.specs.Runs.{IsCaused, IsMadeOf, IsRefusedOf, bytes_in};
 use crate::outcome::Why;
 use crate::output::Output;
 use ds_base::NoMemory;
+use ds_log::{Log, Moved};
 use ds_script::read;
 use ds_tree::Scenario;
-use ds_log::{Log, Moved};
 use ds_world::{FirstWorld, not_built};
 use std::alloc::Global;
 

@@ -17,11 +17,9 @@ ghost use Rattle.ds_world.specs.FirstRules.{first_rules, zero_sector};
 ghost use Rattle.ds_world.specs.FirstWorlds.{root_directive, name_of, place_of, IsSameButRoom, AddsEvent, Turns, AsksFor, IsDue, IsReading, IsSwapping};
 
 use crate::first_tree::tree_of_block;
-
-
 use ds_base::{Command, HostNo, Key, Next, NoMemory, Response, Sector, Word};
-use ds_dir::SubBlock;
 use ds_conduct::HostAnswer;
+use ds_dir::SubBlock;
 use ds_host::FirstHost;
 use ds_log::{Event, Log, Moved, Reply, Step};
 use ds_lun::MemLun;
