@@ -1,6 +1,7 @@
 //! Which steps commit a change.
 ghost use Rattle.std.specs.Prelude.{◌≡◌};
-ghost use Rattle.ds_log.specs.Store.{is_change, commits_at, has_idle, has_committed};
+ghost use Rattle.ds_conduct.specs.Marks.{has_idle, has_committed};
+ghost use Rattle.ds_log.specs.Store.{is_change, commits_at};
 
 use crate::slots::slot_in;
 use ds_base::{Command, Gen, Sector, SectorNo, SlotNo};
