@@ -24,8 +24,8 @@ use Rattle.ds_reg.specs.declared.calls.RegCall.TheVariants as calls
 use Rattle.ds_reg.specs.declared.steps.Stage.TheVariants as stages
 use Rattle.ds_reg.specs.declared.steps.Went.{Went}
 use Rattle.ds_reg.specs.declared.steps.Went.TheVariants as went
-use Rattle.ds_reg.proofs.Showing.{Contains-first, Contains-none, count-missed, last-now, missed-later, passed-missed, passed-now, passed-read}
-use Rattle.ds_reg.proofs.Showing.{sectors-apart, undone-past, untried-past, untried-unmissed}
+use Rattle.ds_reg.proofs.Showing.{Contains-first, Contains-none, count-missed, last-now, missed-later, passed-missed, passed-now}
+use Rattle.ds_reg.proofs.Showing.{passed-read, sectors-apart, undone-past, untried-past, untried-unmissed}
 
 pub faulted : (command : Command) (tick : ℕ) (xs : List Exchange) → HasFaulted (record { command = command; response = Fault; tick = tick }
     ∷ xs)
