@@ -81,11 +81,12 @@ abbrev pub HasMissedBefore : Geom → List Exchange → ℕ → Sector → Bool 
 HasMissedBefore g xs slot image false = missed_at (slot_sector g slot) xs ≡ 0
 HasMissedBefore g xs slot image true = MissedBefore g xs slot image
 
--- the slots before this one were passed, and no command named any after it
+-- the slots before this one were passed, no command named any after it, and nothing was done so far
 pub record IsLooking (g : Geom) (xs : List Exchange) (slot : ℕ) : Type 0 where
   pub within : slot < g.slots
   pub passed : (before : ℕ) → before < slot → IsPassed g xs before
   pub untried : (after : ℕ) → slot < after → IsUntried xs (slot_sector g after)
+  pub nothing_done : (x : Exchange) → Contains xs x → x.response ≢ Done
 
 -- and this free image of it was shown last
 pub record IsEntering (g : Geom) (xs : List Exchange) (slot : ℕ) (image : Sector) (found : Slot) : Type 0 where
