@@ -1,4 +1,5 @@
 pub mod Spelled
 pub mod LockPasses
 pub mod LockSights
+pub mod LockCauses
 pub mod Locks

@@ -15,7 +15,12 @@ use Rattle.ds_base.specs.declared.commands.Next.TheVariants as nexts
 use Rattle.ds_base.specs.declared.commands.Response.{Response}
 use Rattle.ds_base.specs.declared.commands.Response.TheVariants.{Got, Done, Miscompare, Fault}
 use Rattle.ds_base.specs.declared.sectors.Sector.{Sector}
+use Rattle.ds_conduct.specs.Answers.{TellsFault, TellsRead}
+use Rattle.ds_conduct.specs.Causes.{IsLockRaced}
 use Rattle.ds_conduct.specs.Conducts.{Answers}
+use Rattle.ds_conduct.specs.declared.answers.HostAnswer.{HostAnswer}
+use Rattle.ds_conduct.specs.declared.answers.HostAnswer.TheVariants.{Busy, DeviceFault}
+use Rattle.ds_conduct.specs.declared.answers.Spot.TheVariants as spots
 use Rattle.ds_conduct.specs.Digests as digests
 use Rattle.ds_conduct.specs.Digests.{Digest, Own, noted}
 use Rattle.ds_conduct.specs.Guards.{Lock, Locks, MayRead, MaySend, SawOver}
@@ -28,6 +33,7 @@ use Rattle.ds_lock.proofs.Order.{slot-later}
 use Rattle.ds_lock.proofs.Shown.{few-slots, seen_of-append}
 use Rattle.ds_lock.specs.Locking.{IsLoose, IsShown, IsSlotShown, Over, Unowned, header_image, lock_sector, read_of, slot_image, slot_sector, taken_from}
 use Rattle.ds_lock.specs.Stages.{HasSeen, IsWanted, LockValue, due, due_at, notes_after, noted_at}
+use Rattle.ds_lock.specs.declared.how.How.TheVariants.{Held, Recovering, Raced}
 use Rattle.ds_lock.specs.declared.steps.Stage.{Stage}
 use Rattle.ds_lock.specs.declared.steps.Stage.TheVariants as stages
 use Rattle.ds_lock.specs.declared.steps.Wanted.{Wanted}
@@ -154,3 +160,71 @@ module _ (setting : Setting) (own : Own) (object : ℕ) (is_wanted : IsWanted (w
     may-step : (command : Command) → Step command → MaySend setting d now command
     may-step command (Looks at e may) = subst (λ c. MaySend setting d now c) (sym e) may
     may-step command (Takes h e shown loose room) = subst (λ c. MaySend setting d now c) (sym e) (Lock (locks h shown loose room))
+
+    none-read : (at : ℕ) (response : Response) → MayRead setting d now at → Fits (Read at) response → response ≢ Fault
+        → Answers setting d now (Read at) response None
+    none-read at (Got s) may fits sound = record { may = may; tells = tt }
+    none-read at Done may fits sound = absurd fits
+    none-read at (Miscompare offset) may fits sound = absurd fits
+    none-read at Fault may fits sound = absurd (sound refl)
+
+    none-swap : (at : ℕ) (verify fresh : Sector) (response : Response) → Locks setting d now at verify fresh
+        → Fits (Swap at verify fresh) response → response ≢ Fault → Answers setting d now (Swap at verify fresh) response None
+    none-swap at verify fresh (Got s) may fits sound = absurd fits
+    none-swap at verify fresh Done may fits sound = record { may = Lock may; tells = refl }
+    none-swap at verify fresh (Miscompare offset) may fits sound = record { may = Lock may; tells = tt }
+    none-swap at verify fresh Fault may fits sound = absurd (sound refl)
+
+    none-step : (command : Command) (response : Response) → Step command → Fits command response → response ≢ Fault
+        → Answers setting d now command response None
+    none-step command response (Looks at e may) fits sound = subst (λ c. Answers setting d now c response None) (sym e)
+        (none-read at response may (subst (λ c. Fits c response) e fits) sound)
+    none-step command response (Takes h e shown loose room) fits sound = subst (λ c. Answers setting d now c response None) (sym e)
+        (none-swap (lock_sector setting.geom object) (header_image h) (header_image (taken_from w.own h)) response
+        (locks h shown loose room) (subst (λ c. Fits c response) e fits) sound)
+
+    fault-told : TellsFault d.answer DeviceFault (Some DeviceFault)
+    fault-told = subst (λ v. TellsFault v DeviceFault (Some DeviceFault)) (sym unanswered) refl
+
+    fault-step : (command : Command) → Step command → Answers setting d now command Fault (Some DeviceFault)
+    fault-step command (Looks at e may) = subst (λ c. Answers setting d now c Fault (Some DeviceFault)) (sym e)
+        (record { may = may; tells = fault-told })
+    fault-step command (Takes h e shown loose room) = subst (λ c. Answers setting d now c Fault (Some DeviceFault)) (sym e)
+        (record { may = Lock (locks h shown loose room); tells = fault-told })
+
+    abbrev exchange : Command → Response → Exchange
+    exchange command response = record { command = command; response = response; tick = now }
+
+    -- what is told by a Read under the generation that is held
+    abbrev IsTold : Option HostAnswer → Command → Response → Type 0
+    IsTold answer command response = TellsRead setting d now (Some own) (noted setting.geom d now command response).notes
+        (exchange command response ∷ d.exchanges) answer
+
+    read-step : (command : Command) (response : Response) (at : ℕ) (sector : Sector) (answer : Option HostAnswer) → Step command
+        → command ≡ Read at → response ≡ Got sector → IsTold answer command response → Answers setting d now command response answer
+    read-step command response at sector answer (Takes h e shown loose room) is got =
+        absurd (let apart : Read at ≡ Swap (lock_sector setting.geom object) (header_image h) (header_image (taken_from w.own h)) = sym is ∙ e in cc)
+    read-step command response at sector answer (Looks at' e may) is got =
+        subst (λ c. IsTold answer c response → Answers setting d now c response answer) (sym e)
+        (subst (λ r. IsTold answer (Read at') r → Answers setting d now (Read at') r answer) (sym got)
+        (λ told. record {
+          may = may;
+          tells = subst (λ o. TellsRead setting d now o (noted setting.geom d now (Read at') (Got sector)).notes
+              (exchange (Read at') (Got sector) ∷ d.exchanges) answer) (sym holds) told;
+        }))
+
+    -- what is told where the Swap finds another header in place
+    missed-step : (command : Command) (response : Response) (at offset : ℕ) (verify fresh : Sector) → Step command
+        → command ≡ Swap at verify fresh → response ≡ Miscompare offset
+        → IsLockRaced setting.geom (exchange command response ∷ d.exchanges) object
+        → Answers setting d now command response (Some (Busy (spots.Object object) Raced))
+    missed-step command response at offset verify fresh (Looks at' e may) is missed =
+        absurd (let apart : Read at' ≡ Swap at verify fresh = sym e ∙ is in cc)
+    missed-step command response at offset verify fresh (Takes h e shown loose room) is missed =
+        let from = lock_sector setting.geom object in
+        let to = header_image (taken_from w.own h) in
+        subst (λ c. IsLockRaced setting.geom (exchange c response ∷ d.exchanges) object
+        → Answers setting d now c response (Some (Busy (spots.Object object) Raced))) (sym e)
+        (subst (λ r. IsLockRaced setting.geom (exchange (Swap from (header_image h) to) r ∷ d.exchanges) object
+        → Answers setting d now (Swap from (header_image h) to) r (Some (Busy (spots.Object object) Raced))) (sym missed)
+        (λ raced. record { may = Lock (locks h shown loose room); tells = raced }))
