@@ -2,4 +2,4 @@ pub mod Spelled
 pub mod LockPasses
 pub mod LockSights
 pub mod LockCauses
-pub mod Locks
+pub mod LockSteps

@@ -1,10 +1,9 @@
--- The taking of a lock keeps the guards of a host, and what the host answers there is right.
+-- What the taking of a lock sends keeps the guards of a host, and what is answered to it is right.
 use Rattle.std.proofs.Common.{◌≡◌, ◌≢◌, ℕ, ◌+◌, ◌^◌, ◌<◌, ◌≤◌, ◌⊎◌, inl, inr, Bool, true, false, cond, List, [], ◌∷◌, ◌++◌, length, Option, Some, None, refl, sym, ap, subst, ◌∙◌, append_assoc, arith}
 use Rattle.std.specs.Prelude.{◌==◌}
 use Rattle.std.specs.List.{Contains}
 use Rattle.std.proofs.lemmas.Bool.{cases_eq, eq-eqb}
 use Rattle.std.proofs.lemmas.Bool.Decides.{nat_tests}
-use Rattle.std.proofs.lemmas.List.Elements.{Contains-append_right}
 use Rattle.std.proofs.lemmas.Option.{same_Some}
 use Rattle.ds_base.specs.Device.{Fits}
 use Rattle.ds_base.specs.Exchanges.{Exchange, IsLast, seen_of}
@@ -15,6 +14,7 @@ use Rattle.ds_base.specs.declared.commands.Next.TheVariants as nexts
 use Rattle.ds_base.specs.declared.commands.Response.{Response}
 use Rattle.ds_base.specs.declared.commands.Response.TheVariants.{Got, Done, Miscompare, Fault}
 use Rattle.ds_base.specs.declared.sectors.Sector.{Sector}
+use Rattle.ds_conduct.proofs.Places.{header-beyond, slot_number-beyond, slot_number-of}
 use Rattle.ds_conduct.specs.Answers.{TellsFault, TellsRead}
 use Rattle.ds_conduct.specs.Causes.{IsLockRaced}
 use Rattle.ds_conduct.specs.Conducts.{Answers}
@@ -32,7 +32,7 @@ use Rattle.ds_layout.specs.declared.places.Place.TheVariants as places
 use Rattle.ds_lock.proofs.Order.{slot-later}
 use Rattle.ds_lock.proofs.Shown.{few-slots, seen_of-append}
 use Rattle.ds_lock.specs.Locking.{IsLoose, IsShown, IsSlotShown, Over, Unowned, header_image, lock_sector, read_of, slot_image, slot_sector, taken_from}
-use Rattle.ds_lock.specs.Stages.{HasSeen, IsWanted, LockValue, due, due_at, notes_after, noted_at}
+use Rattle.ds_lock.specs.Stages.{HasSeen, IsWanted, LockValue, due_at, noted_at, with_note}
 use Rattle.ds_lock.specs.declared.how.How.TheVariants.{Held, Recovering, Raced}
 use Rattle.ds_lock.specs.declared.steps.Stage.{Stage}
 use Rattle.ds_lock.specs.declared.steps.Stage.TheVariants as stages
@@ -42,28 +42,17 @@ use Rattle.ds_marks.specs.declared.header.Header.{Header}
 use Rattle.ds_marks.specs.declared.header.Owner.{Owner}
 use Rattle.ds_marks.specs.declared.slot.Slot.{Slot}
 use Rattle.ds_watch.specs.Notes.{Note}
+use Rattle.ds_host_laws.proofs.LockCauses.{contains-last, wanted_by}
 use Rattle.ds_host_laws.proofs.LockSights.{slot-spelled}
 use Rattle.ds_host_laws.proofs.Spelled.{header-again}
-use Rattle.ds_host_laws.specs.Locks.{IsTaking}
-
-abbrev Pair : Type 0
-Pair = ℕ × Sector
-
-Contains-head : (x : Pair) (xs : List Pair) → Contains (x ∷ xs) x
-Contains-head x xs = (0, omega arith, refl)
-
-contains-last : (list : List Pair) (at : ℕ) (s : Sector) → IsLast list at s → Contains list (at, s)
-contains-last list at s last = subst (λ (l : List Pair). Contains l (at, s)) (sym last.parts)
-    (Contains-append_right last.newer ((at, s) ∷ last.older) (at, s) (Contains-head (at, s) last.older))
 
 abbrev command_of : Next → Command
 command_of (nexts.Send command) = command
 command_of nexts.Rest = Read 0
 command_of (nexts.Late now last) = Read 0
 
--- what a host wants that takes a lock under the generation that it holds
-abbrev pub wanted_by : Setting → Own → ℕ → Wanted
-wanted_by setting own object = record { geom = setting.geom; own = owner_of setting own; object = object }
+eq-comm : (a b : ℕ) → (a == b) ≡ (b == a)
+eq-comm a b = grind (arith, nat_tests)
 
 module _ (setting : Setting) (own : Own) (object : ℕ) (is_wanted : IsWanted (wanted_by setting own object)) where
   abbrev w : Wanted
@@ -77,6 +66,47 @@ module _ (setting : Setting) (own : Own) (object : ℕ) (is_wanted : IsWanted (w
         widths = record { object_fits = is.widths.object_fits; owner_fits = (omega (arith, few), size) };
         ranges = record { generation_to = omega (arith, room); is_owner = is_wanted.is_owner };
       }
+
+  read-notes : (stage : Stage) (slot now : ℕ) (notes : List Note) (response : Response) → slot < setting.geom.slots
+      → ((sector : Sector) → noted_at w stage (Got sector) now notes ≡ with_note w slot sector now notes)
+      → noted_at w stage Done now notes ≡ notes → ((offset : ℕ) → noted_at w stage (Miscompare offset) now notes ≡ notes)
+      → noted_at w stage Fault now notes ≡ notes
+      → digests.notes_after setting.geom (Some own) now (Read (slot_sector setting.geom slot)) response notes ≡ noted_at w stage response now notes
+  read-notes stage slot now notes (Got sector) within got done missed faulted =
+      ap (λ n. digests.noted_of (Some own) n now sector notes) (slot_number-of setting.geom slot within)
+      ∙ (ap (λ b. cond b notes (record { slot = slot; image = sector; tick = now } ∷ notes)) (eq-comm own.slot slot) ∙ sym (got sector))
+  read-notes stage slot now notes Done within got done missed faulted = sym done
+  read-notes stage slot now notes (Miscompare offset) within got done missed faulted = sym (missed offset)
+  read-notes stage slot now notes Fault within got done missed faulted = sym faulted
+
+  header-notes : (now : ℕ) (notes : List Note) (response : Response)
+      → digests.notes_after setting.geom (Some own) now (Read (lock_sector setting.geom object)) response notes ≡ notes
+  header-notes now notes (Got sector) =
+      ap (λ n. digests.noted_of (Some own) n now sector notes)
+      (slot_number-beyond setting.geom (lock_sector setting.geom object) (header-beyond setting.geom object))
+  header-notes now notes Done = refl
+  header-notes now notes (Miscompare offset) = refl
+  header-notes now notes Fault = refl
+
+  abbrev AreNoted : ℕ → List Note → Stage → Response → Command → Type 0
+  AreNoted now notes stage response command =
+      digests.notes_after setting.geom (Some own) now command response notes ≡ noted_at w stage response now notes
+
+  -- both note alike
+  pub notes-step : (now : ℕ) (notes : List Note) (pass : List Exchange) (stage : Stage) (command : Command) (response : Response)
+      → due_at w stage ≡ nexts.Send command → HasSeen w stage pass → AreNoted now notes stage response command
+  notes-step now notes pass stages.Header command response due seen =
+      subst (AreNoted now notes stages.Header response) (ap command_of due) (header-notes now notes response)
+  notes-step now notes pass (stages.Owner h o) command response due seen =
+      subst (AreNoted now notes (stages.Owner h o) response) (ap command_of due)
+      (read-notes (stages.Owner h o) o.slot now notes response seen.1 (λ sector. refl) refl (λ offset. refl) refl)
+  notes-step now notes pass (stages.Breaker h slot s by' generation) command response due seen =
+      subst (AreNoted now notes (stages.Breaker h slot s by' generation) response) (ap command_of due)
+      (read-notes (stages.Breaker h slot s by' generation) by' now notes response seen.2 (λ sector. refl) refl (λ offset. refl) refl)
+  notes-step now notes pass (stages.Taking h) command response due seen =
+      subst (AreNoted now notes (stages.Taking h) response) (ap command_of due) refl
+  notes-step now notes pass (stages.Broken h slot s) command response due seen = absurd cc
+  notes-step now notes pass stages.Over command response due seen = absurd cc
 
   module _ (d : Digest) (now : ℕ) (host_size : length setting.host ≡ 16) (holds : d.own ≡ Some own) (unanswered : d.answer ≡ None)
       (pass rest : List Exchange) (parts : d.exchanges ≡ pass ++ rest) where
@@ -133,7 +163,7 @@ module _ (setting : Setting) (own : Own) (object : ℕ) (is_wanted : IsWanted (w
     }
 
     -- what is sent: a Read, or that Swap
-    data Step (command : Command) : Type 0 where
+    pub data Step (command : Command) : Type 0 where
       Looks : (at : ℕ) → command ≡ Read at → MayRead setting d now at → Step command
       Takes : (h : Header) → command ≡ Swap (lock_sector setting.geom object) (header_image h) (header_image (taken_from w.own h))
           → IsShown w pass h → IsLoose w pass h → h.generation < 2 ^ 62 → Step command
@@ -144,7 +174,7 @@ module _ (setting : Setting) (own : Own) (object : ℕ) (is_wanted : IsWanted (w
       within = place_within setting.geom (places.Slot slot) is_wanted.is_geom within;
     }
 
-    step : (stage : Stage) (command : Command) → due_at w stage ≡ nexts.Send command → HasSeen w stage pass → Step command
+    pub step : (stage : Stage) (command : Command) → due_at w stage ≡ nexts.Send command → HasSeen w stage pass → Step command
     step stages.Header command due seen = Looks (lock_sector setting.geom object) (sym (ap command_of due)) (record {
       unanswered = unanswered;
       within = place_within setting.geom (places.Header object) is_wanted.is_geom is_wanted.is_lock;
@@ -157,7 +187,7 @@ module _ (setting : Setting) (own : Own) (object : ℕ) (is_wanted : IsWanted (w
     step (stages.Broken h slot s) command due seen = absurd cc
     step stages.Over command due seen = absurd cc
 
-    may-step : (command : Command) → Step command → MaySend setting d now command
+    pub may-step : (command : Command) → Step command → MaySend setting d now command
     may-step command (Looks at e may) = subst (λ c. MaySend setting d now c) (sym e) may
     may-step command (Takes h e shown loose room) = subst (λ c. MaySend setting d now c) (sym e) (Lock (locks h shown loose room))
 
@@ -175,7 +205,7 @@ module _ (setting : Setting) (own : Own) (object : ℕ) (is_wanted : IsWanted (w
     none-swap at verify fresh (Miscompare offset) may fits sound = record { may = Lock may; tells = tt }
     none-swap at verify fresh Fault may fits sound = absurd (sound refl)
 
-    none-step : (command : Command) (response : Response) → Step command → Fits command response → response ≢ Fault
+    pub none-step : (command : Command) (response : Response) → Step command → Fits command response → response ≢ Fault
         → Answers setting d now command response None
     none-step command response (Looks at e may) fits sound = subst (λ c. Answers setting d now c response None) (sym e)
         (none-read at response may (subst (λ c. Fits c response) e fits) sound)
@@ -186,7 +216,7 @@ module _ (setting : Setting) (own : Own) (object : ℕ) (is_wanted : IsWanted (w
     fault-told : TellsFault d.answer DeviceFault (Some DeviceFault)
     fault-told = subst (λ v. TellsFault v DeviceFault (Some DeviceFault)) (sym unanswered) refl
 
-    fault-step : (command : Command) → Step command → Answers setting d now command Fault (Some DeviceFault)
+    pub fault-step : (command : Command) → Step command → Answers setting d now command Fault (Some DeviceFault)
     fault-step command (Looks at e may) = subst (λ c. Answers setting d now c Fault (Some DeviceFault)) (sym e)
         (record { may = may; tells = fault-told })
     fault-step command (Takes h e shown loose room) = subst (λ c. Answers setting d now c Fault (Some DeviceFault)) (sym e)
@@ -200,7 +230,7 @@ module _ (setting : Setting) (own : Own) (object : ℕ) (is_wanted : IsWanted (w
     IsTold answer command response = TellsRead setting d now (Some own) (noted setting.geom d now command response).notes
         (exchange command response ∷ d.exchanges) answer
 
-    read-step : (command : Command) (response : Response) (at : ℕ) (sector : Sector) (answer : Option HostAnswer) → Step command
+    pub read-step : (command : Command) (response : Response) (at : ℕ) (sector : Sector) (answer : Option HostAnswer) → Step command
         → command ≡ Read at → response ≡ Got sector → IsTold answer command response → Answers setting d now command response answer
     read-step command response at sector answer (Takes h e shown loose room) is got =
         absurd (let apart : Read at ≡ Swap (lock_sector setting.geom object) (header_image h) (header_image (taken_from w.own h)) = sym is ∙ e in cc)
@@ -214,7 +244,7 @@ module _ (setting : Setting) (own : Own) (object : ℕ) (is_wanted : IsWanted (w
         }))
 
     -- what is told where the Swap finds another header in place
-    missed-step : (command : Command) (response : Response) (at offset : ℕ) (verify fresh : Sector) → Step command
+    pub missed-step : (command : Command) (response : Response) (at offset : ℕ) (verify fresh : Sector) → Step command
         → command ≡ Swap at verify fresh → response ≡ Miscompare offset
         → IsLockRaced setting.geom (exchange command response ∷ d.exchanges) object
         → Answers setting d now command response (Some (Busy (spots.Object object) Raced))
