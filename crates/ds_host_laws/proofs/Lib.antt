@@ -3,3 +3,4 @@ pub mod LockPasses
 pub mod LockSights
 pub mod LockCauses
 pub mod LockSteps
+pub mod Locks
