@@ -4,3 +4,4 @@ pub mod LockSights
 pub mod LockCauses
 pub mod LockSteps
 pub mod Locks
+pub mod LockEnds

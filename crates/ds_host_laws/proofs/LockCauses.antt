@@ -31,7 +31,7 @@ use Rattle.ds_host_laws.specs.Locks.{HasBegun, IsBreakable, OfBreaking, OfLive, 
 abbrev Pair : Type 0
 Pair = ℕ × Sector
 
-Contains-head : (x : Pair) (xs : List Pair) → Contains (x ∷ xs) x
+pub Contains-head : (x : Pair) (xs : List Pair) → Contains (x ∷ xs) x
 Contains-head x xs = (0, omega arith, refl)
 
 pub contains-last : (list : List Pair) (at : ℕ) (s : Sector) → IsLast list at s → Contains list (at, s)
@@ -150,7 +150,7 @@ module _ (setting : Setting) (own : Own) (object : ℕ) (is_wanted : IsWanted (w
     IsNotOwn = (h : Header) (o : Owner) → locks.IsShown w pass h → locks.IsLoose w pass h → 2 ^ 62 ≤ h.generation → h.owner ≡ Some o
         → IsOf o own.slot own.generation → ⊥
 
-    other-owner : (h : Header) (slot : ℕ) (s : Slot) → locks.IsOwnedBy w pass h slot s → (o : Owner) → h.owner ≡ Some o
+    pub other-owner : (h : Header) (slot : ℕ) (s : Slot) → locks.IsOwnedBy w pass h slot s → (o : Owner) → h.owner ≡ Some o
         → IsOf o own.slot own.generation → ⊥
     other-owner h slot s by' o owned is =
         let same : by'.owner ≡ o = same_Some by'.owner o (sym by'.names.owned ∙ owned) in

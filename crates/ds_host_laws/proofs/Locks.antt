@@ -46,7 +46,7 @@ EndsBy w missed notes now xs end = (pass : List Exchange) × IsPass w missed xs 
 
 module _ (setting : Setting) (d : Digest) (own : Own) (run : LockValue) (xs ys : List Exchange) (taking : IsTaking setting d own run xs ys)
     where
-  abbrev w : Wanted
+  abbrev pub w : Wanted
   w = wanted_by setting own run.wanted.object
 
   pub wanted-is : run.wanted ≡ w
@@ -56,7 +56,7 @@ module _ (setting : Setting) (d : Digest) (own : Own) (run : LockValue) (xs ys :
   pub is-wanted : IsWanted w
   is-wanted = subst IsWanted wanted-is taking.is_wanted
 
-  abbrev pass : List Exchange
+  abbrev pub pass : List Exchange
   pass = taking.agrees.pass
 
   pub has-seen : HasSeen w run.stage pass
@@ -72,17 +72,17 @@ module _ (setting : Setting) (d : Digest) (own : Own) (run : LockValue) (xs ys :
       let older = pass-front w missed all front is in
       (older.0 ++ ys, ap (λ (l : List Exchange). l ++ ys) older.1 ∙ append_assoc front older.0 ys)
 
-  rest : (rest : List Exchange) × (d.exchanges ≡ pass ++ rest)
+  pub rest : (rest : List Exchange) × (d.exchanges ≡ pass ++ rest)
   rest = let all = all-parts run.missed xs pass is-pass in (all.0, taking.parts ∙ all.1)
 
   module _ (now : ℕ) (command : Command) (due : due run ≡ nexts.Send command) where
-    due-at : due_at w run.stage ≡ nexts.Send command
+    pub due-at : due_at w run.stage ≡ nexts.Send command
     due-at = subst (λ v. due_at v run.stage ≡ nexts.Send command) wanted-is due
 
-    abbrev IsStep : Type 0
+    abbrev pub IsStep : Type 0
     IsStep = Step setting own run.wanted.object is-wanted d now taking.host_size taking.holds taking.unanswered pass rest.0 rest.1 command
 
-    is-step : IsStep
+    pub is-step : IsStep
     is-step = step setting own run.wanted.object is-wanted d now taking.host_size taking.holds taking.unanswered pass rest.0 rest.1
         run.stage command due-at has-seen
 
@@ -102,7 +102,7 @@ module _ (setting : Setting) (d : Digest) (own : Own) (run : LockValue) (xs ys :
         rest.0 rest.1 command is-step
 
     module _ (response : Response) where
-      abbrev x : Exchange
+      abbrev pub x : Exchange
       x = record { command = command; response = response; tick = now }
 
       -- the host notes what the run does
@@ -121,7 +121,7 @@ module _ (setting : Setting) (d : Digest) (own : Own) (run : LockValue) (xs ys :
       ended-by run' end notes same ended = subst (λ v. EndsBy v run'.missed notes now (x ∷ xs) end) (same ∙ wanted-is)
           (ended.pass, ended.is_pass, ended.cause)
 
-      exchanges-are : (missed : Bool) (after : List Exchange) → IsPass w missed (x ∷ xs) after
+      pub exchanges-are : (missed : Bool) (after : List Exchange) → IsPass w missed (x ∷ xs) after
           → (rest : List Exchange) × (x ∷ d.exchanges ≡ after ++ rest)
       exchanges-are missed after is =
           let all = all-parts missed (x ∷ xs) after is in
