@@ -1,6 +1,9 @@
 pub mod Spelled
 pub mod LockPasses
 pub mod LockSights
+pub mod LockCauses
+pub mod LockSteps
 pub mod Locks
+pub mod LockEnds
 pub mod Digests
 pub mod RestsWhen

@@ -49,6 +49,11 @@ one-miss (x ∷ ls) (y ∷ ms) cs ds a b same none nor is is' =
     let rest : ls ≡ ms = one-miss ls ms cs ds a b (cc) none.1 nor.1 is is' in
     cc
 
+-- where a Swap missed before the pass, one missed
+pub has-missed : (w : Wanted) (xs pass : List Exchange) → IsAfterMiss w xs pass → HasNoMiss xs → ⊥
+has-missed w xs pass is none = missed-not w is.first is.earlier is.misses (none-behind pass is.earlier is.first (subst HasNoMiss is.parts
+    none))
+
 -- what came before the pass
 pub pass-front : (w : Wanted) (missed : Bool) (xs pass : List Exchange) → IsPass w missed xs pass
     → (older : List Exchange) × (xs ≡ pass ++ older)

@@ -30,7 +30,7 @@ read-at all later earlier at tick s parts = record {
   got = record { command = refl; response = refl };
 }
 
-regrouped : {X : Type 0} (front pass newer middle rest : List X) (x y : X) → pass ≡ newer ++ x ∷ (middle ++ y ∷ [])
+pub regrouped : {X : Type 0} (front pass newer middle rest : List X) (x y : X) → pass ≡ newer ++ x ∷ (middle ++ y ∷ [])
     → front ++ (pass ++ rest) ≡ ((front ++ newer) ++ x ∷ middle) ++ y ∷ rest
 regrouped front pass newer middle rest x y parts =
     ap (λ l. front ++ (l ++ rest)) parts

@@ -1,156 +1,214 @@
--- The taking of a lock keeps the guards of a host, and what the host answers there is right.
-use Rattle.std.proofs.Common.{◌≡◌, ◌≢◌, ℕ, ◌+◌, ◌^◌, ◌<◌, ◌≤◌, ◌⊎◌, inl, inr, Bool, true, false, cond, List, [], ◌∷◌, ◌++◌, length, Option, Some, None, refl, sym, ap, subst, ◌∙◌, append_assoc, arith}
-use Rattle.std.specs.Prelude.{◌==◌}
-use Rattle.std.specs.List.{Contains}
-use Rattle.std.proofs.lemmas.Bool.{cases_eq, eq-eqb}
-use Rattle.std.proofs.lemmas.Bool.Decides.{nat_tests}
-use Rattle.std.proofs.lemmas.List.Elements.{Contains-append_right}
-use Rattle.std.proofs.lemmas.Option.{same_Some}
+-- The law of a run that takes a lock, as the conduct of the host whose call it serves.
+use Rattle.std.proofs.Common.{◌≡◌, ◌≢◌, ℕ, ◌+◌, ◌^◌, ◌<◌, Bool, true, false, List, [], ◌∷◌, ◌++◌, Option, Some, None, refl, sym, ap, subst, ◌∙◌, append_assoc}
 use Rattle.ds_base.specs.Device.{Fits}
-use Rattle.ds_base.specs.Exchanges.{Exchange, IsLast, seen_of}
+use Rattle.ds_base.specs.Exchanges.{Exchange}
 use Rattle.ds_base.specs.declared.commands.Command.{Command}
-use Rattle.ds_base.specs.declared.commands.Command.TheVariants.{Read, Write, Swap}
-use Rattle.ds_base.specs.declared.commands.Next.{Next}
+use Rattle.ds_base.specs.declared.commands.Command.TheVariants.{Read, Swap}
 use Rattle.ds_base.specs.declared.commands.Next.TheVariants as nexts
 use Rattle.ds_base.specs.declared.commands.Response.{Response}
 use Rattle.ds_base.specs.declared.commands.Response.TheVariants.{Got, Done, Miscompare, Fault}
 use Rattle.ds_base.specs.declared.sectors.Sector.{Sector}
+use Rattle.ds_conduct.specs.Answers.{TellsRead}
+use Rattle.ds_conduct.specs.Causes as causes
 use Rattle.ds_conduct.specs.Conducts.{Answers}
 use Rattle.ds_conduct.specs.Digests as digests
 use Rattle.ds_conduct.specs.Digests.{Digest, Own, noted}
-use Rattle.ds_conduct.specs.Guards.{Lock, Locks, MayRead, MaySend, SawOver}
-use Rattle.ds_conduct.specs.Headers.{owner_of}
+use Rattle.ds_conduct.specs.Guards.{MaySend}
 use Rattle.ds_conduct.specs.Settings.{Setting}
-use Rattle.ds_layout.proofs.SamePlace.{place_within}
-use Rattle.ds_layout.specs.Places.{total_of}
-use Rattle.ds_layout.specs.declared.places.Place.TheVariants as places
-use Rattle.ds_lock.proofs.Order.{slot-later}
-use Rattle.ds_lock.proofs.Shown.{few-slots, seen_of-append}
-use Rattle.ds_lock.specs.Locking.{IsLoose, IsShown, IsSlotShown, Over, Unowned, header_image, lock_sector, read_of, slot_image, slot_sector, taken_from}
-use Rattle.ds_lock.specs.Stages.{HasSeen, IsWanted, LockValue, due, due_at, notes_after, noted_at}
+use Rattle.ds_conduct.specs.declared.answers.HostAnswer.{HostAnswer}
+use Rattle.ds_conduct.specs.declared.answers.HostAnswer.TheVariants.{Busy, DeviceFault}
+use Rattle.ds_conduct.specs.declared.answers.Spot.TheVariants as spots
+use Rattle.ds_lock.specs.Locking as locks
+use Rattle.ds_lock.specs.Locking.{Cause, HasNoMiss, IsAfterMiss, IsRaced, read_of, slot_image, slot_sector}
+use Rattle.ds_lock.specs.Stages.{HasEnded, HasSeen, IsPass, IsWanted, Leads, LockValue, Told, due, due_at, notes_after, noted_at}
+use Rattle.ds_lock.specs.declared.ends.LockEnd.{LockEnd}
+use Rattle.ds_lock.specs.declared.ends.LockEnd.TheVariants as ends
+use Rattle.ds_lock.specs.declared.how.How.{How}
+use Rattle.ds_lock.specs.declared.how.How.TheVariants.{Held, Recovering, Raced}
 use Rattle.ds_lock.specs.declared.steps.Stage.{Stage}
-use Rattle.ds_lock.specs.declared.steps.Stage.TheVariants as stages
 use Rattle.ds_lock.specs.declared.steps.Wanted.{Wanted}
-use Rattle.ds_marks.specs.Header.{IsHeader}
-use Rattle.ds_marks.specs.declared.header.Header.{Header}
-use Rattle.ds_marks.specs.declared.header.Owner.{Owner}
 use Rattle.ds_marks.specs.declared.slot.Slot.{Slot}
 use Rattle.ds_watch.specs.Notes.{Note}
-use Rattle.ds_host_laws.proofs.LockSights.{slot-spelled}
-use Rattle.ds_host_laws.proofs.Spelled.{header-again}
-use Rattle.ds_host_laws.specs.Locks.{IsTaking}
+use Rattle.ds_host_laws.proofs.LockCauses.{held-cause, raced-cause, recovering-cause, wanted_by}
+use Rattle.ds_host_laws.proofs.LockPasses.{has-missed, pass-front}
+use Rattle.ds_host_laws.proofs.LockSteps.{Step, fault-step, may-step, missed-step, none-step, notes-step, read-step, step}
+use Rattle.ds_host_laws.specs.Locks.{HasBegun, IsTaking}
 
-abbrev Pair : Type 0
-Pair = ℕ × Sector
+head-same : {X : Type 0} (xs ys : List X) (x y : X) → x ∷ xs ≡ y ∷ ys → x ≡ y
+head-same xs ys x y same = cc
 
-Contains-head : (x : Pair) (xs : List Pair) → Contains (x ∷ xs) x
-Contains-head x xs = (0, omega arith, refl)
+tail-same : {X : Type 0} (xs ys : List X) (x y : X) → x ∷ xs ≡ y ∷ ys → xs ≡ ys
+tail-same xs ys x y same = cc
 
-contains-last : (list : List Pair) (at : ℕ) (s : Sector) → IsLast list at s → Contains list (at, s)
-contains-last list at s last = subst (λ (l : List Pair). Contains l (at, s)) (sym last.parts)
-    (Contains-append_right last.newer ((at, s) ∷ last.older) (at, s) (Contains-head (at, s) last.older))
+-- a pass that ends so
+abbrev pub EndsBy : Wanted → Bool → List Note → ℕ → List Exchange → LockEnd → Type 0
+EndsBy w missed notes now xs end = (pass : List Exchange) × IsPass w missed xs pass × Cause w notes now pass end
 
-abbrev command_of : Next → Command
-command_of (nexts.Send command) = command
-command_of nexts.Rest = Read 0
-command_of (nexts.Late now last) = Read 0
+module _ (setting : Setting) (d : Digest) (own : Own) (run : LockValue) (xs ys : List Exchange) (taking : IsTaking setting d own run xs ys)
+    where
+  abbrev pub w : Wanted
+  w = wanted_by setting own run.wanted.object
 
--- what a host wants that takes a lock under the generation that it holds
-abbrev pub wanted_by : Setting → Own → ℕ → Wanted
-wanted_by setting own object = record { geom = setting.geom; own = owner_of setting own; object = object }
+  pub wanted-is : run.wanted ≡ w
+  wanted-is = ap (λ g. record { geom = g; own = run.wanted.own; object = run.wanted.object }) taking.geom
+      ∙ ap (λ o. record { geom = setting.geom; own = o; object = run.wanted.object }) taking.owner
 
-module _ (setting : Setting) (own : Own) (object : ℕ) (is_wanted : IsWanted (wanted_by setting own object)) where
-  abbrev w : Wanted
-  w = wanted_by setting own object
+  pub is-wanted : IsWanted w
+  is-wanted = subst IsWanted wanted-is taking.is_wanted
 
-  -- the header that a Swap writes is one
-  pub taken-is : (h : Header) → length setting.host ≡ 16 → IsHeader h → h.generation < 2 ^ 62 → IsHeader (taken_from w.own h)
-  taken-is h size is room =
-      let few : own.slot < 16 = few-slots setting.geom own.slot is_wanted.is_geom is_wanted.within in
-      record {
-        widths = record { object_fits = is.widths.object_fits; owner_fits = (omega (arith, few), size) };
-        ranges = record { generation_to = omega (arith, room); is_owner = is_wanted.is_owner };
-      }
+  abbrev pub pass : List Exchange
+  pass = taking.agrees.pass
 
-  module _ (d : Digest) (now : ℕ) (host_size : length setting.host ≡ 16) (holds : d.own ≡ Some own) (unanswered : d.answer ≡ None)
-      (pass rest : List Exchange) (parts : d.exchanges ≡ pass ++ rest) where
-    -- the header was shown last, and what was shown since
-    last-parts : (h : Header) (shown : IsShown w pass h)
-        → seen_of d.exchanges ≡ seen_of shown.later ++ (lock_sector setting.geom object, header_image h) ∷ seen_of rest
-    last-parts h shown =
-        let header : Exchange = read_of (lock_sector setting.geom object) (header_image h) shown.tick in
-        ap seen_of (parts ∙ (ap (λ (l : List Exchange). l ++ rest) shown.parts ∙ append_assoc shown.later (header ∷ []) rest))
-        ∙ seen_of-append shown.later (header ∷ rest)
+  pub has-seen : HasSeen w run.stage pass
+  has-seen = subst (λ v. HasSeen v run.stage pass) wanted-is taking.agrees.seen
 
-    over : (h : Header) (shown : IsShown w pass h) → IsLoose w pass h → (owner : Owner) → h.owner ≡ Some owner
-        → SawOver setting.geom (seen_of shown.later) owner.slot owner.generation
-    over h shown (Unowned none) owner owned = absurd cc
-    over h shown (Over o s owned' there above) owner owned =
-        let same : o ≡ owner = same_Some o owner (sym owned' ∙ owned) in
-        subst (λ (v : Owner). SawOver setting.geom (seen_of shown.later) v.slot v.generation) same (record {
-          within = there.within;
-          sector = slot_image o.slot s;
-          shown = contains-last (seen_of shown.later) (slot_sector setting.geom o.slot) (slot_image o.slot s)
-              (slot-later w pass h shown o.slot s there).last;
-          image = s;
-          spelled = slot-spelled w is_wanted.is_geom o.slot s there.within there.is_slot;
-          above = above;
-        })
+  pub is-pass : IsPass w run.missed xs pass
+  is-pass = subst (λ v. IsPass v run.missed xs pass) wanted-is taking.agrees.is_pass
 
-    -- the Swap that takes a header that nobody has
-    locks : (h : Header) → IsShown w pass h → IsLoose w pass h → h.generation < 2 ^ 62
-        → Locks setting d now (lock_sector setting.geom object) (header_image h) (header_image (taken_from w.own h))
-    locks h shown loose room = record {
-      own = own;
-      holds = holds;
-      unanswered = unanswered;
-      swap = record {
-        object = object;
-        is_lock = is_wanted.is_lock;
-        place = refl;
-        old = h;
-        new = taken_from w.own h;
-        was = header-again h shown.is_header;
-        is = header-again (taken_from w.own h) (taken-is h host_size shown.is_header room);
-        was_object = shown.same_object;
-        same_object = shown.same_object;
-      };
-      last = record {
-        newer = seen_of shown.later;
-        older = seen_of rest;
-        parts = last-parts h shown;
-        newest = shown.apart;
-      };
-      free = over h shown loose;
-      owned = refl;
-      generation = refl;
-    }
+  -- what was sent and heard before a pass
+  pub all-parts : (missed : Bool) (all front : List Exchange) → IsPass w missed all front
+      → (rest : List Exchange) × (all ++ ys ≡ front ++ rest)
+  all-parts missed all front is =
+      let older = pass-front w missed all front is in
+      (older.0 ++ ys, ap (λ (l : List Exchange). l ++ ys) older.1 ∙ append_assoc front older.0 ys)
 
-    -- what is sent: a Read, or that Swap
-    data Step (command : Command) : Type 0 where
-      Looks : (at : ℕ) → command ≡ Read at → MayRead setting d now at → Step command
-      Takes : (h : Header) → command ≡ Swap (lock_sector setting.geom object) (header_image h) (header_image (taken_from w.own h))
-          → IsShown w pass h → IsLoose w pass h → h.generation < 2 ^ 62 → Step command
+  pub rest : (rest : List Exchange) × (d.exchanges ≡ pass ++ rest)
+  rest = let all = all-parts run.missed xs pass is-pass in (all.0, taking.parts ∙ all.1)
 
-    reads-slot : (slot : ℕ) → slot < setting.geom.slots → MayRead setting d now (slot_sector setting.geom slot)
-    reads-slot slot within = record {
-      unanswered = unanswered;
-      within = place_within setting.geom (places.Slot slot) is_wanted.is_geom within;
-    }
+  module _ (now : ℕ) (command : Command) (due : due run ≡ nexts.Send command) where
+    pub due-at : due_at w run.stage ≡ nexts.Send command
+    due-at = subst (λ v. due_at v run.stage ≡ nexts.Send command) wanted-is due
 
-    step : (stage : Stage) (command : Command) → due_at w stage ≡ nexts.Send command → HasSeen w stage pass → Step command
-    step stages.Header command due seen = Looks (lock_sector setting.geom object) (sym (ap command_of due)) (record {
-      unanswered = unanswered;
-      within = place_within setting.geom (places.Header object) is_wanted.is_geom is_wanted.is_lock;
-    })
-    step (stages.Owner h o) command due seen =
-        Looks (slot_sector setting.geom o.slot) (sym (ap command_of due)) (reads-slot o.slot seen.1)
-    step (stages.Breaker h slot s by' generation) command due seen =
-        Looks (slot_sector setting.geom by') (sym (ap command_of due)) (reads-slot by' seen.2)
-    step (stages.Taking h) command due seen = Takes h (sym (ap command_of due)) seen.0 seen.1 seen.2
-    step (stages.Broken h slot s) command due seen = absurd cc
-    step stages.Over command due seen = absurd cc
+    abbrev pub IsStep : Type 0
+    IsStep = Step setting own run.wanted.object is-wanted d now taking.host_size taking.holds taking.unanswered pass rest.0 rest.1 command
 
-    may-step : (command : Command) → Step command → MaySend setting d now command
-    may-step command (Looks at e may) = subst (λ c. MaySend setting d now c) (sym e) may
-    may-step command (Takes h e shown loose room) = subst (λ c. MaySend setting d now c) (sym e) (Lock (locks h shown loose room))
+    pub is-step : IsStep
+    is-step = step setting own run.wanted.object is-wanted d now taking.host_size taking.holds taking.unanswered pass rest.0 rest.1
+        run.stage command due-at has-seen
+
+    -- the run sends what the host may send
+    pub may : MaySend setting d now command
+    may = may-step setting own run.wanted.object is-wanted d now taking.host_size taking.holds taking.unanswered pass rest.0 rest.1
+        command is-step
+
+    -- the host needn't answer yet
+    pub answers-none : (response : Response) → Fits command response → response ≢ Fault → Answers setting d now command response None
+    answers-none response = none-step setting own run.wanted.object is-wanted d now taking.host_size taking.holds taking.unanswered pass
+        rest.0 rest.1 command response is-step
+
+    -- it tells a fault
+    pub answers-fault : Answers setting d now command Fault (Some DeviceFault)
+    answers-fault = fault-step setting own run.wanted.object is-wanted d now taking.host_size taking.holds taking.unanswered pass
+        rest.0 rest.1 command is-step
+
+    module _ (response : Response) where
+      abbrev pub x : Exchange
+      x = record { command = command; response = response; tick = now }
+
+      -- the host notes what the run does
+      pub notes-same : (noted setting.geom d now command response).notes ≡ notes_after run response now d.notes
+      notes-same =
+          ap (λ o. notes_of o) taking.holds
+          ∙ (notes-step setting own run.wanted.object is-wanted now d.notes pass run.stage command response due-at has-seen
+          ∙ ap (λ v. noted_at v run.stage response now d.notes) (sym wanted-is))
+        where
+          notes_of : Option Own → List Note
+          notes_of o = digests.notes_after setting.geom o now command response d.notes
+
+      -- what ended the run
+      pub ended-by : (run' : LockValue) (end : LockEnd) (notes : List Note) → run'.wanted ≡ run.wanted → HasEnded run' notes now (x ∷ xs) end
+          → EndsBy w run'.missed notes now (x ∷ xs) end
+      ended-by run' end notes same ended = subst (λ v. EndsBy v run'.missed notes now (x ∷ xs) end) (same ∙ wanted-is)
+          (ended.pass, ended.is_pass, ended.cause)
+
+      pub exchanges-are : (missed : Bool) (after : List Exchange) → IsPass w missed (x ∷ xs) after
+          → (rest : List Exchange) × (x ∷ d.exchanges ≡ after ++ rest)
+      exchanges-are missed after is =
+          let all = all-parts missed (x ∷ xs) after is in
+          (all.0, ap (λ (l : List Exchange). x ∷ l) taking.parts ∙ all.1)
+
+      read-told : (at : ℕ) (sector : Sector) (answer : HostAnswer) → x ≡ read_of at sector now
+          → TellsRead setting d now (Some own) (noted setting.geom d now command response).notes (x ∷ d.exchanges) (Some answer)
+          → Answers setting d now command response (Some answer)
+      read-told at sector answer is = read-step setting own run.wanted.object is-wanted d now taking.host_size taking.holds
+          taking.unanswered pass rest.0 rest.1 command response at sector (Some answer) is-step (ap (λ (y : Exchange). y.command) is)
+          (ap (λ (y : Exchange). y.response) is)
+
+      held : (run' : LockValue) (slot : ℕ) (s : Slot) → run'.wanted ≡ run.wanted
+          → HasEnded run' (notes_after run response now d.notes) now (x ∷ xs) (ends.Busy (Held slot s))
+          → Answers setting d now command response (Some (Busy (spots.Object run.wanted.object) (Held slot s)))
+      held run' slot s same ended =
+          let notes : List Note = notes_after run response now d.notes in
+          let by_pass = ended-by run' (ends.Busy (Held slot s)) notes same ended in
+          let all = exchanges-are run'.missed by_pass.0 by_pass.1 in
+          let newest = by_pass.2.read in
+          let is : x ≡ read_of (slot_sector setting.geom slot) (slot_image slot s) now =
+          head-same d.exchanges (newest.earlier ++ all.0) x (read_of (slot_sector setting.geom slot) (slot_image slot s) now)
+          (all.1 ∙ ap (λ (l : List Exchange). l ++ all.0) newest.newest) in
+          let told = held-cause setting own run.wanted.object is-wanted notes now by_pass.0 all.0 slot s by_pass.2 in
+          read-told (slot_sector setting.geom slot) (slot_image slot s) (Busy (spots.Object run.wanted.object) (Held slot s)) is
+          (subst (λ n. causes.IsHeld setting.geom own n now (x ∷ d.exchanges) run.wanted.object slot s) (sym notes-same)
+          (subst (λ l. causes.IsHeld setting.geom own notes now l run.wanted.object slot s) (sym all.1) told))
+
+      recovering : (run' : LockValue) (slot : ℕ) (s breaker : Slot) → run'.wanted ≡ run.wanted
+          → HasEnded run' (notes_after run response now d.notes) now (x ∷ xs) (ends.Busy (Recovering slot s breaker))
+          → Answers setting d now command response (Some (Busy (spots.Object run.wanted.object) (Recovering slot s breaker)))
+      recovering run' slot s breaker same ended =
+          let notes : List Note = notes_after run response now d.notes in
+          let by_pass = ended-by run' (ends.Busy (Recovering slot s breaker)) notes same ended in
+          let all = exchanges-are run'.missed by_pass.0 by_pass.1 in
+          let number : ℕ = by_pass.2.by in
+          let newest = by_pass.2.read.read in
+          let is : x ≡ read_of (slot_sector setting.geom number) (slot_image number breaker) now =
+          head-same d.exchanges (newest.earlier ++ all.0) x (read_of (slot_sector setting.geom number) (slot_image number breaker) now)
+          (all.1 ∙ ap (λ (l : List Exchange). l ++ all.0) newest.newest) in
+          let told = recovering-cause setting own run.wanted.object is-wanted notes now by_pass.0 all.0 slot s breaker by_pass.2 in
+          read-told (slot_sector setting.geom number) (slot_image number breaker)
+          (Busy (spots.Object run.wanted.object) (Recovering slot s breaker)) is
+          (subst (λ l. causes.IsRecovering setting.geom own l run.wanted.object slot s breaker) (sym all.1) told)
+
+      has-begun : (raced : IsRaced w (x ∷ xs)) → HasBegun w raced.rest
+      has-begun raced =
+          subst (HasBegun w) (tail-same xs raced.rest x raced.second raced.newest)
+          (by_missed run.missed refl is-pass (subst (λ l. IsAfterMiss w l raced.pass) (sym (tail-same xs raced.rest x raced.second
+          raced.newest)) raced.since))
+        where
+          by_missed : (missed : Bool) → run.missed ≡ missed → IsPass w missed xs pass → IsAfterMiss w xs raced.pass → HasBegun w xs
+          by_missed false e is since = absurd (has-missed w xs raced.pass since (subst HasNoMiss (sym is.0) is.1))
+          by_missed true e is since = subst (λ v. HasBegun v xs) wanted-is (taking.begun e)
+
+      raced : (run' : LockValue) → run'.wanted ≡ run.wanted → IsRaced run'.wanted (x ∷ xs)
+          → Answers setting d now command response (Some (Busy (spots.Object run.wanted.object) Raced))
+      raced run' same is =
+          let raced = subst (λ v. IsRaced v (x ∷ xs)) (same ∙ wanted-is) is in
+          let misses = raced.misses in
+          let missed = head-same xs raced.rest x raced.second raced.newest ∙ misses.is in
+          missed-step setting own run.wanted.object is-wanted d now taking.host_size taking.holds taking.unanswered pass rest.0 rest.1
+          command response misses.at misses.offset misses.verify misses.fresh is-step (ap (λ (y : Exchange). y.command) missed)
+          (ap (λ (y : Exchange). y.response) missed)
+          (subst (λ l. causes.IsLockRaced setting.geom (x ∷ l) run.wanted.object) (sym taking.parts)
+          (raced-cause setting own run.wanted.object is-wanted (x ∷ xs) ys raced (has-begun raced)))
+
+      -- it tells that the lock is held, or was raced for
+      pub answers-busy : (run' : LockValue) (how : How) → run'.wanted ≡ run.wanted
+          → Leads run' (Some (ends.Busy how)) (notes_after run response now d.notes) now (x ∷ xs)
+          → Answers setting d now command response (Some (Busy (spots.Object run.wanted.object) how))
+      answers-busy run' (Held slot s) same leads = held run' slot s same leads.0
+      answers-busy run' (Recovering slot s breaker) same leads = recovering run' slot s breaker same leads.0
+      answers-busy run' Raced same leads = raced run' same leads.0
+
+      faulted : (run' : LockValue) → run'.wanted ≡ run.wanted
+          → HasEnded run' (notes_after run response now d.notes) now (x ∷ xs) ends.Faulted → response ≡ Fault
+      faulted run' same ended =
+          let by_pass = ended-by run' ends.Faulted (notes_after run response now d.notes) same ended in
+          let all = exchanges-are run'.missed by_pass.0 by_pass.1 in
+          let newest = head-same d.exchanges (by_pass.2.earlier ++ all.0) x by_pass.2.newest
+          (all.1 ∙ ap (λ (l : List Exchange). l ++ all.0) by_pass.2.parts) in
+          ap (λ (y : Exchange). y.response) newest ∙ by_pass.2.failed
+
+      -- it tells a fault where the run ends by one
+      pub answers-faulted : (run' : LockValue) → run'.wanted ≡ run.wanted
+          → Leads run' (Some ends.Faulted) (notes_after run response now d.notes) now (x ∷ xs)
+          → Answers setting d now command response (Some DeviceFault)
+      answers-faulted run' same leads =
+          subst (λ r. Answers setting d now command r (Some DeviceFault)) (sym (faulted run' same leads.0)) answers-fault
