@@ -5,3 +5,4 @@ pub mod LockCauses
 pub mod LockSteps
 pub mod Locks
 pub mod LockEnds
+pub mod LockGoes
