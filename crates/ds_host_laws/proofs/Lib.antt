@@ -5,5 +5,6 @@ pub mod LockCauses
 pub mod LockSteps
 pub mod Locks
 pub mod LockEnds
+pub mod LockGoes
 pub mod Digests
 pub mod RestsWhen

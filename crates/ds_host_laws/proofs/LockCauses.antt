@@ -130,7 +130,7 @@ module _ (setting : Setting) (own : Own) (object : ℕ) (is_wanted : IsWanted (w
         )
 
     pub damaged-cause : (IsPlanned : CallOf Key → List ℕ → Type 0) (at : ℕ) → locks.IsDamaged w pass at
-        → causes.IsDamaged setting own (pass ++ rest) IsPlanned at
+        → causes.IsDamaged setting own notes (pass ++ rest) IsPlanned at
     damaged-cause IsPlanned at (locks.BadHeader e spells) =
         causes.BadHeader object spells.sector is_wanted.is_lock e
         (newest-at at (lock_sector setting.geom object) spells.sector e spells.read) spells.none

@@ -251,11 +251,11 @@ module _ (setting : Setting) (d : Digest) (own : Own) (run : LockValue) (xs ys :
 
   -- what is damaged
   pub got-damaged : (IsPlanned : CallOf Key → List ℕ → Type 0) (at : ℕ) → Leads run' (Some (ends.Damaged at)) notes now (x ∷ xs)
-      → causes.IsDamaged setting own (x ∷ d.exchanges) IsPlanned at
+      → causes.IsDamaged setting own notes (x ∷ d.exchanges) IsPlanned at
   got-damaged IsPlanned at leads =
       let by_pass = ended-by setting d own run xs ys taking now command due response run' (ends.Damaged at) notes same leads.0 in
       let all = exchanges-are setting d own run xs ys taking now command due response run'.missed by_pass.0 by_pass.1 in
-      subst (λ l. causes.IsDamaged setting own l IsPlanned at) (sym all.1)
+      subst (λ l. causes.IsDamaged setting own notes l IsPlanned at) (sym all.1)
       (damaged-cause setting own run.wanted.object (is-wanted setting d own run xs ys taking) notes now by_pass.0 all.0 IsPlanned at
       by_pass.2)
 
