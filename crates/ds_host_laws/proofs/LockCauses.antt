@@ -202,8 +202,8 @@ module _ (setting : Setting) (own : Own) (object : ℕ) (is_wanted : IsWanted (w
       let behind : raced.rest ++ older ≡ raced.pass ++ first ∷ (raced.since.earlier ++ older) =
       ap (λ (l : List Exchange). l ++ older) raced.since.parts ∙ append_assoc raced.pass (first ∷ raced.since.earlier) older in
       let apart : first ≢ header = λ same. absurd (let c : Swap raced.since.misses.at raced.since.misses.verify raced.since.misses.fresh
-          ≡ Read (lock_sector setting.geom object) = sym (ap (λ (y : Exchange). y.command) raced.since.misses.is)
-          ∙ ap (λ (y : Exchange). y.command) same in cc) in
+      ≡ Read (lock_sector setting.geom object) = sym (ap (λ (y : Exchange). y.command) raced.since.misses.is)
+      ∙ ap (λ (y : Exchange). y.command) same in cc) in
       let begins = last-behind raced.pass raced.since.earlier begun.later first header apart (sym raced.since.parts ∙ begun.parts) in
       record {
         raced = record {

@@ -56,7 +56,7 @@ module _ (w : Wanted) where
   begun-behind x xs earlier misses begun =
       let header : Exchange = read_of (lock_sector w.geom w.object) begun.sector begun.tick in
       let apart : x ≢ header = λ same. absurd (let c : Swap misses.at misses.verify misses.fresh ≡ Read (lock_sector w.geom w.object) =
-          sym (ap (λ (y : Exchange). y.command) misses.is) ∙ ap (λ (y : Exchange). y.command) same in cc) in
+      sym (ap (λ (y : Exchange). y.command) misses.is) ∙ ap (λ (y : Exchange). y.command) same in cc) in
       let behind = last-behind [] xs begun.later x header apart begun.parts in
       record { later = behind.0; sector = begun.sector; tick = begun.tick; parts = behind.1 }
 
@@ -150,68 +150,68 @@ module _ (setting : Setting) (own : Own) (object : ℕ) (is_wanted : IsWanted (w
       (pass-begun (wanted_by setting own object) false xs pass h before shown begun)
 
 module _ (setting : Setting) (d : Digest) (own : Own) (run : LockValue) (xs ys : List Exchange) (taking : IsTaking setting d own run xs ys)
-    where
-  abbrev w : Wanted
-  w = wanted_by setting own run.wanted.object
+  where
+    abbrev w : Wanted
+    w = wanted_by setting own run.wanted.object
 
-  -- one exchange more
-  pub goes-on : (now : ℕ) (command : Command) → due run ≡ nexts.Send command → (response : Response) → Fits command response
-      → response ≢ Fault → (run' : LockValue) → run'.wanted ≡ run.wanted
-      → Agrees run' (record { command = command; response = response; tick = now } ∷ xs)
-      → IsTaking setting (after setting d now command response None) own run' (record { command = command; response = response; tick = now }
-      ∷ xs) ys
-  goes-on now command due response fits sound run' same agrees =
-      let x : Exchange = record { command = command; response = response; tick = now } in
-      let step = is-step setting d own run xs ys taking now command due in
-      let before = rest setting d own run xs ys taking in
-      let is = is-wanted setting d own run xs ys taking in
-      let wanted = wanted-is setting d own run xs ys taking in
-      record {
+    -- one exchange more
+    pub goes-on : (now : ℕ) (command : Command) → due run ≡ nexts.Send command → (response : Response) → Fits command response
+        → response ≢ Fault → (run' : LockValue) → run'.wanted ≡ run.wanted
+        → Agrees run' (record { command = command; response = response; tick = now } ∷ xs)
+        → IsTaking setting (after setting d now command response None) own run' (record { command = command; response = response; tick = now }
+        ∷ xs) ys
+    goes-on now command due response fits sound run' same agrees =
+        let x : Exchange = record { command = command; response = response; tick = now } in
+        let step = is-step setting d own run xs ys taking now command due in
+        let before = rest setting d own run xs ys taking in
+        let is = is-wanted setting d own run xs ys taking in
+        let wanted = wanted-is setting d own run xs ys taking in
+        record {
+          geom = ap (λ (v : Wanted). v.geom) same ∙ taking.geom;
+          owner = ap (λ (v : Wanted). v.own) same ∙ taking.owner;
+          is_wanted = subst IsWanted (sym same) taking.is_wanted;
+          host_size = taking.host_size;
+          holds = own-stays setting own run.wanted.object is d now taking.host_size taking.holds taking.unanswered taking.agrees.pass before.0
+              before.1 command response step fits sound;
+          unanswered = taking.unanswered;
+          parts = ap (λ (l : List Exchange). x ∷ l) taking.parts;
+          agrees = agrees;
+          begun = λ again. subst (λ v. HasBegun v (x ∷ xs)) (sym (same ∙ wanted))
+              (begun-step setting own run.wanted.object is d now taking.host_size taking.holds taking.unanswered taking.agrees.pass before.0
+              before.1 command response xs run.missed run'.missed agrees.pass step fits (is-pass setting d own run xs ys taking)
+              (λ missed. subst (λ v. HasBegun v xs) wanted (taking.begun missed))
+              (subst (λ v. IsPass v run'.missed (x ∷ xs) agrees.pass) (same ∙ wanted) agrees.is_pass) again);
+        }
+
+    -- the run had begun with the header where a break is awaited
+    awaiting-begun : (slot : ℕ) (s : Slot) → Awaits run.stage slot s → HasBegun run.wanted xs
+    awaiting-begun slot s awaits =
+        let seen = subst (λ v. HasSeen run.wanted v taking.agrees.pass) awaits.1 taking.agrees.seen in
+        pass-begun run.wanted run.missed xs taking.agrees.pass awaits.0 taking.agrees.is_pass seen.0.names.shown taking.begun
+
+    module _ (slot : ℕ) (s : Slot) (awaits : Awaits run.stage slot s) (broke : List Exchange) (run' : LockValue)
+        (same : run'.wanted ≡ run.wanted) where
+      -- the exchanges of the break are added
+      pub resumed : (d' : Digest) → d'.own ≡ Some own → d'.answer ≡ None → d'.exchanges ≡ (broke ++ xs) ++ ys → Agrees run' (broke ++ xs)
+          → IsTaking setting d' own run' (broke ++ xs) ys
+      resumed d' holds unanswered parts agrees = record {
         geom = ap (λ (v : Wanted). v.geom) same ∙ taking.geom;
         owner = ap (λ (v : Wanted). v.own) same ∙ taking.owner;
         is_wanted = subst IsWanted (sym same) taking.is_wanted;
         host_size = taking.host_size;
-        holds = own-stays setting own run.wanted.object is d now taking.host_size taking.holds taking.unanswered taking.agrees.pass before.0
-            before.1 command response step fits sound;
-        unanswered = taking.unanswered;
-        parts = ap (λ (l : List Exchange). x ∷ l) taking.parts;
+        holds = holds;
+        unanswered = unanswered;
+        parts = parts;
         agrees = agrees;
-        begun = λ again. subst (λ v. HasBegun v (x ∷ xs)) (sym (same ∙ wanted))
-            (begun-step setting own run.wanted.object is d now taking.host_size taking.holds taking.unanswered taking.agrees.pass before.0
-            before.1 command response xs run.missed run'.missed agrees.pass step fits (is-pass setting d own run xs ys taking)
-            (λ missed. subst (λ v. HasBegun v xs) wanted (taking.begun missed))
-            (subst (λ v. IsPass v run'.missed (x ∷ xs) agrees.pass) (same ∙ wanted) agrees.is_pass) again);
+        begun = λ again. subst (λ v. HasBegun v (broke ++ xs)) (sym same) (begun-more run.wanted broke xs (awaiting-begun slot s awaits));
       }
 
-  -- the run had begun with the header where a break is awaited
-  awaiting-begun : (slot : ℕ) (s : Slot) → Awaits run.stage slot s → HasBegun run.wanted xs
-  awaiting-begun slot s awaits =
-      let seen = subst (λ v. HasSeen run.wanted v taking.agrees.pass) awaits.1 taking.agrees.seen in
-      pass-begun run.wanted run.missed xs taking.agrees.pass awaits.0 taking.agrees.is_pass seen.0.names.shown taking.begun
-
-  module _ (slot : ℕ) (s : Slot) (awaits : Awaits run.stage slot s) (broke : List Exchange) (run' : LockValue)
-      (same : run'.wanted ≡ run.wanted) where
-    -- the exchanges of the break are added
-    pub resumed : (d' : Digest) → d'.own ≡ Some own → d'.answer ≡ None → d'.exchanges ≡ (broke ++ xs) ++ ys → Agrees run' (broke ++ xs)
-        → IsTaking setting d' own run' (broke ++ xs) ys
-    resumed d' holds unanswered parts agrees = record {
-      geom = ap (λ (v : Wanted). v.geom) same ∙ taking.geom;
-      owner = ap (λ (v : Wanted). v.own) same ∙ taking.owner;
-      is_wanted = subst IsWanted (sym same) taking.is_wanted;
-      host_size = taking.host_size;
-      holds = holds;
-      unanswered = unanswered;
-      parts = parts;
-      agrees = agrees;
-      begun = λ again. subst (λ v. HasBegun v (broke ++ xs)) (sym same) (begun-more run.wanted broke xs (awaiting-begun slot s awaits));
-    }
-
-    -- and it may have been the second miss
-    pub resumed-raced : (notes : List Note) (now : ℕ) → Leads run' (Some (ends.Busy Raced)) notes now (broke ++ xs)
-        → IsLockRaced setting.geom ((broke ++ xs) ++ ys) run.wanted.object
-    resumed-raced notes now leads =
-        let wanted = wanted-is setting d own run xs ys taking in
-        let raced = subst (λ v. IsRaced v (broke ++ xs)) (same ∙ wanted) leads.0 in
-        let begun = subst (λ v. HasBegun v (broke ++ xs)) wanted (begun-more run.wanted broke xs (awaiting-begun slot s awaits)) in
-        raced-cause setting own run.wanted.object (is-wanted setting d own run xs ys taking) (broke ++ xs) ys raced
-        (begun-behind w raced.second raced.rest raced.pass raced.misses (subst (HasBegun w) raced.newest begun))
+      -- and it may have been the second miss
+      pub resumed-raced : (notes : List Note) (now : ℕ) → Leads run' (Some (ends.Busy Raced)) notes now (broke ++ xs)
+          → IsLockRaced setting.geom ((broke ++ xs) ++ ys) run.wanted.object
+      resumed-raced notes now leads =
+          let wanted = wanted-is setting d own run xs ys taking in
+          let raced = subst (λ v. IsRaced v (broke ++ xs)) (same ∙ wanted) leads.0 in
+          let begun = subst (λ v. HasBegun v (broke ++ xs)) wanted (begun-more run.wanted broke xs (awaiting-begun slot s awaits)) in
+          raced-cause setting own run.wanted.object (is-wanted setting d own run xs ys taking) (broke ++ xs) ys raced
+          (begun-behind w raced.second raced.rest raced.pass raced.misses (subst (HasBegun w) raced.newest begun))
