@@ -9,9 +9,9 @@ ghost use Rattle.ds_host.specs.FirstStates.{FirstState};
 ghost use Rattle.ds_host.specs.Rooms.{entry_named, has_free_room};
 ghost use Rattle.ds_host.specs.FirstConduct.{IsFirstCall, Begins, due, MayTake, Takes, HasPlaceFor, Reads, ReadsRooms, reply_to_lookup, tree_call};
 
-use crate::answers::HostAnswer;
 use crate::rooms;
 use ds_base::{Command, Gen, Key, Name, Next, Response, Sector, SlotNo, Tick, Word};
+use ds_conduct::HostAnswer;
 use ds_dir::SubBlock;
 use ds_tree::{Call, CallOf, HostCall, HostCallOf, TreeReply};
 use std::marker::Model;

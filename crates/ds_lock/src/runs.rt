@@ -20,6 +20,7 @@ ghost use Rattle.ds_lock.specs.Stages.{
   HasFreed,
   HasMissed,
   HasSeen,
+  IsGoing,
   IsRun,
   IsWanted,
   Leads,
@@ -67,6 +68,7 @@ impl LockRun {
         requires owner { IsOwner (Some own) }
         ensures wanted { result.wanted ≡ record { geom = geom.now; own = own; object = object } }
         ensures begun { Agrees result [] }
+        ensures going { IsGoing result.stage }
         ensures whole { IsRun result }
     {
         LockRun {
@@ -78,6 +80,13 @@ impl LockRun {
             missed: false,
             stage: Stage::Header,
         }
+    }
+
+    /// The lock object that is taken.
+    pub fn object(&self) -> ObjNo
+        ensures { result ≡ self.now.wanted.object }
+    {
+        self.wanted.object
     }
 
     /// What is sent next; nothing once the run has ended, or while a break is awaited. No plain write is among it, so that it is never

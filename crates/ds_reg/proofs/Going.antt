@@ -1,6 +1,7 @@
 -- Where each response leads.
 use Rattle.std.proofs.Common.{◌≡◌, ◌≢◌, ℕ, ◌+◌, ◌<◌, inl, inr, Bool, true, false, List, [], ◌∷◌, Some, None}
 use Rattle.std.proofs.Common.{refl, sym, ap, subst, ◌∙◌, arith}
+use Rattle.std.specs.List.{Contains}
 use Rattle.std.proofs.lemmas.Bool.{cases_eq, cases_lt}
 use Rattle.ds_base.specs.Exchanges.{Exchange, missed_at, seen_of}
 use Rattle.ds_base.specs.declared.commands.Command.{Command}
@@ -23,8 +24,8 @@ use Rattle.ds_reg.specs.declared.calls.RegCall.TheVariants as calls
 use Rattle.ds_reg.specs.declared.steps.Stage.TheVariants as stages
 use Rattle.ds_reg.specs.declared.steps.Went.{Went}
 use Rattle.ds_reg.specs.declared.steps.Went.TheVariants as went
-use Rattle.ds_reg.proofs.Showing.{Contains-first, Contains-none, count-missed, last-now, missed-later, passed-missed, passed-now, passed-read}
-use Rattle.ds_reg.proofs.Showing.{sectors-apart, untried-past, untried-unmissed}
+use Rattle.ds_reg.proofs.Showing.{Contains-first, Contains-none, count-missed, last-now, missed-later, passed-missed, passed-now}
+use Rattle.ds_reg.proofs.Showing.{passed-read, sectors-apart, undone-past, untried-past, untried-unmissed}
 
 pub faulted : (command : Command) (tick : ℕ) (xs : List Exchange) → HasFaulted (record { command = command; response = Fault; tick = tick }
     ∷ xs)
@@ -44,6 +45,7 @@ begun g is = record {
     less,
   ) in none);
   untried = λ after less x has. absurd (Contains-none x has);
+  nothing_done = λ x has. absurd (Contains-none x has);
 }
 
 pub begun-fits : (g : Geom) (call : RegCall) → IsGeom g → call ≡ calls.Enter → (0 < g.slots) × (call ≡ calls.Enter)
@@ -84,11 +86,17 @@ module _ (g : Geom) (xs : List Exchange) (slot tick : ℕ) where
       untried-past xs (record { command = Read (slot_sector g slot); response = Got s; tick = tick }) (slot_sector g after)
       (sectors-apart g slot after (λ same. omega (arith, same, less))) (looking.untried after less)
 
+  undone-read : (s : Sector) → IsLooking g xs slot → (x : Exchange) → Contains (read s) x → x.response ≢ Done
+  undone-read s looking =
+      undone-past xs (record { command = Read (slot_sector g slot); response = Got s; tick = tick }) (λ done. absurd cc)
+      looking.nothing_done
+
   looking-on : (s : Sector) → IsLooking g xs slot → IsLooking g (read s) slot
   looking-on s looking = record {
     within = looking.within;
     passed = λ before less. passed-read g xs tick before slot s less (looking.passed before less);
     untried = λ after less. untried-read s after less looking;
+    nothing_done = undone-read s looking;
   }
 
   missed-before : (s : Sector) (missed : Bool) → HasMissed g xs slot missed → HasMissedBefore g (read s) slot s missed
@@ -131,6 +139,7 @@ module _ (g : Geom) (xs : List Exchange) (slot tick : ℕ) where
       within = omega (arith, looking.within, more);
       passed = λ other less. passed-all s found spelled taken looking other less;
       untried = λ after less. untried-read s after (omega (arith, less)) looking;
+      nothing_done = undone-read s looking;
     },
     untried-read s (slot + 1) (omega arith) looking,
   )
@@ -204,6 +213,9 @@ module _ (g : Geom) (xs : List Exchange) (slot tick : ℕ) where
               untried-past xs (record { command = Swap (slot_sector g slot) image fresh; response = Miscompare offset; tick = tick })
               (slot_sector g after)
               (sectors-apart g slot after (λ same. omega (arith, same, less))) (entering.looking.untried after less);
+          nothing_done =
+              undone-past xs (record { command = Swap (slot_sector g slot) image fresh; response = Miscompare offset; tick = tick })
+              (λ done. absurd cc) entering.looking.nothing_done;
         },
         (count-missed g xs tick (slot_sector g slot) offset image fresh ∙ ap (λ (n : ℕ). n + 1) none, missed-now),
       )

@@ -1,3 +1,4 @@
 pub mod Showing
 pub mod Going
 pub mod Taking
+pub mod Remaining

@@ -1,5 +1,6 @@
 -- What one more exchange shows.
-use Rattle.std.proofs.Common.{◌≡◌, ◌≢◌, ℕ, zero, suc, ◌+◌, ◌<◌, ◌⊎◌, inl, inr, false, cond, List, [], ◌∷◌, Some, refl, ap, ◌∙◌, arith}
+use Rattle.std.proofs.Common.{◌≡◌, ◌≢◌, ℕ, zero, suc, ◌+◌, ◌<◌, ◌⊎◌, inl, inr, false, cond, List, [], ◌∷◌, Some}
+use Rattle.std.proofs.Common.{refl, ap, subst, ◌∙◌, arith}
 use Rattle.std.specs.List.{Contains}
 use Rattle.std.proofs.lemmas.Bool.{eq-eqb, ne_eqb}
 use Rattle.ds_base.specs.Device.{target_of}
@@ -29,6 +30,14 @@ Contains-first x xs = (0, omega arith, refl)
 Contains-more : {X : Type 0} (y : X) (xs : List X) (x : X) → Contains xs x → Contains (y ∷ xs) x
 Contains-more y xs x (k, within, is) = (suc k, omega (arith, within), is)
 
+-- what holds for the first and for those behind it holds for all
+all-past : {X : Type 0} (P : X → Type 0) (xs : List X) (x : X) → P x → ((y : X) → Contains xs y → P y)
+    → (y : X) → Contains (x ∷ xs) y → P y
+all-past P xs x first all y has = elim (Contains-cases xs x y has) [
+  | inl is ↦ subst P is first
+  | inr there ↦ all y there
+]
+
 -- what is shown now is the last
 pub last-now : (list : List (ℕ × Sector)) (at : ℕ) (s : Sector) → IsLast ((at, s) ∷ list) at s
 last-now list at s = record { newer = []; older = list; parts = refl; newest = λ other has. Contains-none (at, other) has }
@@ -50,10 +59,12 @@ sectors-apart g one other differs same = differs (omega (arith, same))
 
 -- a sector that no command named stays so while another is named
 pub untried-past : (xs : List Exchange) (x : Exchange) (at : ℕ) → target_of x.command ≢ at → IsUntried xs at → IsUntried (x ∷ xs) at
-untried-past xs x at differs untried = λ y has. elim (Contains-cases xs x y has) [
-  | inl is ↦ λ same. differs (ap (λ (z : Exchange). target_of z.command) is ∙ same)
-  | inr there ↦ untried y there
-]
+untried-past xs x at differs untried = all-past (λ (y : Exchange). target_of y.command ≢ at) xs x differs untried
+
+-- after an exchange that did nothing, nothing was done still
+pub undone-past : (xs : List Exchange) (x : Exchange) → x.response ≢ Done → ((y : Exchange) → Contains xs y → y.response ≢ Done)
+    → (y : Exchange) → Contains (x ∷ xs) y → y.response ≢ Done
+undone-past xs x differs undone = all-past (λ (y : Exchange). y.response ≢ Done) xs x differs undone
 
 untried-one : (at : ℕ) (command : Command) (response : Response) → target_of command ≢ at → is_missed at command response ≡ false
 untried-one at (Swap target verify fresh) (Miscompare offset) differs = ne_eqb target at differs

@@ -1,5 +1,5 @@
 -- What a run has sent and heard at each stage, and what it sends next.
-use Rattle.std.specs.Prelude.{◌≡◌, ◌≢◌, ℕ, ◌+◌, ◌^◌, ◌<◌, Bool, true, false, List, [], Option, Some, None, ⊤}
+use Rattle.std.specs.Prelude.{◌≡◌, ◌≢◌, ℕ, ◌+◌, ◌-◌, ◌*◌, ◌^◌, ◌<◌, if◌then◌else◌, Bool, true, false, List, [], Option, Some, None, ⊤}
 use Rattle.std.specs.List.{Contains}
 use Rattle.ds_base.specs.Device.{target_of}
 use Rattle.ds_base.specs.Exchanges.{Exchange, IsLast, missed_at, seen_of}
@@ -81,11 +81,12 @@ abbrev pub HasMissedBefore : Geom → List Exchange → ℕ → Sector → Bool 
 HasMissedBefore g xs slot image false = missed_at (slot_sector g slot) xs ≡ 0
 HasMissedBefore g xs slot image true = MissedBefore g xs slot image
 
--- the slots before this one were passed, and no command named any after it
+-- the slots before this one were passed, no command named any after it, and nothing was done so far
 pub record IsLooking (g : Geom) (xs : List Exchange) (slot : ℕ) : Type 0 where
   pub within : slot < g.slots
   pub passed : (before : ℕ) → before < slot → IsPassed g xs before
   pub untried : (after : ℕ) → slot < after → IsUntried xs (slot_sector g after)
+  pub nothing_done : (x : Exchange) → Contains xs x → x.response ≢ Done
 
 -- and this free image of it was shown last
 pub record IsEntering (g : Geom) (xs : List Exchange) (slot : ℕ) (image : Sector) (found : Slot) : Type 0 where
@@ -190,3 +191,17 @@ FitsGoing g call (went.Ended end) = ⊤
 abbrev pub Leads : RegValue → Option RegEnd → List Exchange → Type 0
 Leads run None xs = Agrees run xs × (run.stage ≢ stages.Over)
 Leads run (Some end) xs = Told run.geom run.host run.call xs end × (run.stage ≡ stages.Over)
+
+-- how many commands may come once this try at a slot is over: a second try unless one missed, and two tries at each slot after it
+abbrev pub left_past : Geom → ℕ → Bool → ℕ
+left_past g slot missed = (g.slots - (slot + 1)) * 4 + (if missed then 0 else 2)
+
+-- how many commands are still to come at the most: a try at a slot is a Read and a Swap
+abbrev pub left_at : Geom → Stage → ℕ
+left_at g (stages.Looking slot missed) = left_past g slot missed + 2
+left_at g (stages.Entering slot image found missed) = left_past g slot missed + 1
+left_at g stages.Own = 1
+left_at g stages.Over = 0
+
+abbrev pub left_of : RegValue → ℕ
+left_of run = left_at run.geom run.stage

@@ -1,5 +1,5 @@
 //! A run for the slot of a host, command by command.
-ghost use Rattle.std.specs.Prelude.{◌≡◌, ◌≢◌, ◌<◌, ℕ, [], ◌∷◌, List};
+ghost use Rattle.std.specs.Prelude.{◌≡◌, ◌≢◌, ◌<◌, ◌≤◌, ℕ, [], ◌∷◌, List, None};
 ghost use Rattle.ds_base.specs.Device.{Fits};
 ghost use Rattle.ds_base.specs.Exchanges.{Exchange};
 ghost use Rattle.ds_base.specs.Geometry.{IsGeom};
@@ -8,7 +8,7 @@ ghost use Rattle.ds_base.specs.declared.commands.Next.TheVariants as nexts;
 ghost use Rattle.ds_marks.specs.Slot.{InRanges};
 ghost use Rattle.ds_reg.specs.Registering.{slot_sector};
 ghost use Rattle.ds_reg.specs.Stages.{Agrees, FitsGoing, FitsStage, GoesTo, HasStage, IsCall, IsRun, Leads, due, image_sector};
-ghost use Rattle.ds_reg.specs.Stages.{Takes, told_by};
+ghost use Rattle.ds_reg.specs.Stages.{Takes, left_at, left_of, told_by};
 ghost use Rattle.ds_reg.specs.declared.steps.Stage.TheVariants as stages;
 ghost use Rattle.ds_reg.specs.declared.steps.Went.{Went};
 
@@ -50,6 +50,7 @@ impl RegRun {
         ensures whole { IsRun result }
         ensures sends { result.stage ≢ stages.Over }
         ensures begun { Agrees result [] }
+        ensures few { left_of result ≤ 64 }
     {
         let stage = first_stage(geom, &what);
         RegRun {
@@ -170,6 +171,7 @@ impl RegRun {
             → other ≡ told_by result self.new.stage }
         ensures leads { (xs : List Exchange) (command : Command) → due self.old self.old.stage ≡ nexts.Send command → Agrees self.old xs
             → Leads self.new result (record { command = command; response = response.now; tick = now } ∷ xs) }
+        ensures nearer { result ≡ None → left_of self.new < left_of self.old }
     {
         match self.went(response) {
             Went::On(stage) => {
@@ -190,6 +192,7 @@ fn first_stage(geom: &Geom, what: &RegCall) -> Stage
     ensures fits { FitsStage geom.now what.now result }
     ensures sends { result ≢ stages.Over }
     ensures begun { HasStage geom.now what.now result [] }
+    ensures few { left_at geom.now result ≤ 64 }
 {
     match what {
         RegCall::Enter => Stage::Looking {

@@ -7,10 +7,10 @@ use Rattle.std.proofs.lemmas.Bool.Decides.{eqb_tells}
 use Rattle.std.proofs.lemmas.List.Elements.{recursion_from_All}
 use Rattle.std.proofs.Math.Seq.{drop-cons}
 use Rattle.ds_tree.specs.declared.scenarios.Scenario.{Scenario}
-use Rattle.ds_world.specs.declared.logs.Event.{Event}
-use Rattle.ds_world.specs.declared.logs.Reply.{Reply}
+use Rattle.ds_log.specs.declared.logs.Event.{Event}
+use Rattle.ds_log.specs.declared.logs.Reply.{Reply}
 use Rattle.ds_report.specs.Slots.{slot_line}
-use Rattle.ds_world.specs.Logged.{AreInOrder}
+use Rattle.ds_log.specs.Logged.{AreInOrder}
 use Rattle.ds_report.specs.Report.{given_in, reply_line, event_part, parts_of, death_line}
 
 abbrev pub IsRising : List Reply → Type 0

@@ -8,10 +8,10 @@ use Rattle.ds_base.specs.declared.names.NodeKind.{NodeKind}
 use Rattle.ds_base.specs.declared.names.NodeKind.TheVariants.{File, Dir}
 use Rattle.ds_tree.specs.declared.calls.TreeReply.{TreeReply}
 use Rattle.ds_tree.specs.declared.calls.TreeReply.TheVariants as replies
-use Rattle.ds_host.specs.declared.answers.HostAnswer.{HostAnswer}
-use Rattle.ds_host.specs.declared.answers.HostAnswer.TheVariants.{Tree, Registered, Plain, BadName, Unregistered, NotOpen, StillOpen, OpenFull, Busy, NoSlot, Fenced, LeaseLost, DeviceFault, InDoubt, Damaged, WornOut}
-use Rattle.ds_host.specs.declared.answers.Spot.{Spot}
-use Rattle.ds_host.specs.declared.answers.Spot.TheVariants as spots
+use Rattle.ds_conduct.specs.declared.answers.HostAnswer.{HostAnswer}
+use Rattle.ds_conduct.specs.declared.answers.HostAnswer.TheVariants.{Tree, Registered, Plain, BadName, Unregistered, NotOpen, StillOpen, OpenFull, Busy, NoSlot, Fenced, LeaseLost, DeviceFault, InDoubt, Damaged, WornOut}
+use Rattle.ds_conduct.specs.declared.answers.Spot.{Spot}
+use Rattle.ds_conduct.specs.declared.answers.Spot.TheVariants as spots
 use Rattle.ds_lock.specs.declared.how.How.{How}
 use Rattle.ds_lock.specs.declared.how.How.TheVariants.{Held, Recovering, Raced}
 use Rattle.ds_marks.specs.Slot.{breaker_of, breaker_generation_of}

@@ -3,8 +3,8 @@ use Rattle.std.specs.Prelude.{ℕ, ◌+◌, ◌==◌, if◌then◌else◌, List,
 use Rattle.std.specs.List.{flat_map, filter_map, enumerate_from}
 use Rattle.ds_base.specs.declared.commands.Command.TheVariants.{Read}
 use Rattle.ds_base.specs.declared.commands.Response.TheVariants.{Got}
-use Rattle.ds_host.specs.declared.answers.HostAnswer.{HostAnswer}
-use Rattle.ds_host.specs.declared.answers.HostAnswer.TheVariants as answers
+use Rattle.ds_conduct.specs.declared.answers.HostAnswer.{HostAnswer}
+use Rattle.ds_conduct.specs.declared.answers.HostAnswer.TheVariants as answers
 use Rattle.ds_tree.specs.declared.calls.TreeReply.TheVariants as replies
 use Rattle.ds_tree.specs.declared.calls.HostCallOf.TheVariants as host_calls
 use Rattle.ds_tree.specs.declared.scenarios.Directive.{Directive}
@@ -13,13 +13,13 @@ use Rattle.ds_tree.specs.declared.scenarios.Scenario.{Scenario}
 use Rattle.ds_text.specs.Lines.{line}
 use Rattle.ds_tree.specs.CallKinds.{call_word}
 use Rattle.ds_tree.specs.Nodes.{FileTree}
-use Rattle.ds_world.specs.declared.logs.Event.{Event}
-use Rattle.ds_world.specs.declared.logs.Reply.{Reply}
-use Rattle.ds_world.specs.declared.logs.Step.{Step}
-use Rattle.ds_world.specs.declared.logs.Step.TheVariants.{Sent}
-use Rattle.ds_world.specs.Follows.{is_event_of}
-use Rattle.ds_world.specs.Store.{change_count}
-use Rattle.ds_world.specs.Scripts.{directive_at}
+use Rattle.ds_log.specs.declared.logs.Event.{Event}
+use Rattle.ds_log.specs.declared.logs.Reply.{Reply}
+use Rattle.ds_log.specs.declared.logs.Step.{Step}
+use Rattle.ds_log.specs.declared.logs.Step.TheVariants.{Sent}
+use Rattle.ds_log.specs.Follows.{is_event_of}
+use Rattle.ds_log.specs.Store.{change_count}
+use Rattle.ds_log.specs.Scripts.{directive_at}
 use Rattle.ds_report.specs.Answers.{answer_text, item_text, place_text}
 use Rattle.ds_report.specs.Hosts.{host_name}
 use Rattle.ds_report.specs.Slots.{slot_line}

@@ -10,9 +10,9 @@ use Rattle.ds_marks.specs.declared.slot.SlotState.{SlotState}
 use Rattle.ds_marks.specs.declared.slot.SlotState.TheVariants.{Free, Live, Breaking}
 use Rattle.ds_tree.specs.declared.scenarios.Scenario.{Scenario}
 use Rattle.ds_text.specs.Lines.{line}
-use Rattle.ds_world.specs.declared.logs.Event.{Event}
-use Rattle.ds_world.specs.declared.logs.Step.{Step}
-use Rattle.ds_world.specs.declared.logs.Step.TheVariants.{Sent}
+use Rattle.ds_log.specs.declared.logs.Event.{Event}
+use Rattle.ds_log.specs.declared.logs.Step.{Step}
+use Rattle.ds_log.specs.declared.logs.Step.TheVariants.{Sent}
 use Rattle.ds_marks.specs.SlotIn.{slot_in}
 use Rattle.ds_report.specs.Answers.{pair_text}
 use Rattle.ds_report.specs.Hosts.{host_name}

@@ -9,9 +9,9 @@ use Rattle.ds_layout.specs.declared.places.Place.TheVariants as places
 use Rattle.ds_marks.specs.Slot.{IsSlot, slot_bytes}
 use Rattle.ds_marks.specs.declared.slot.Slot.{Slot}
 use Rattle.ds_tree.specs.declared.scenarios.Scenario.{Scenario}
-use Rattle.ds_world.specs.declared.logs.Event.{Event}
-use Rattle.ds_world.specs.declared.logs.Step.{Step}
-use Rattle.ds_world.specs.declared.logs.Step.TheVariants.{Sent}
+use Rattle.ds_log.specs.declared.logs.Event.{Event}
+use Rattle.ds_log.specs.declared.logs.Step.{Step}
+use Rattle.ds_log.specs.declared.logs.Step.TheVariants.{Sent}
 use Rattle.ds_report.specs.Hosts.{host_name}
 use Rattle.ds_report.specs.Slots.{turn_word, turn_line, slot_line}
 

@@ -6,7 +6,7 @@ ghost use Rattle.ds_report.specs.Answers.{answer_text, busy_text, spot_text, pai
 
 use crate::pairs::{write_key_pair, write_pair};
 use ds_base::{Key, Kind, Name, NoMemory, NodeKind, Tick};
-use ds_host::{HostAnswer, Spot};
+use ds_conduct::{HostAnswer, Spot};
 use ds_lock::How;
 use ds_marks::SlotState;
 use ds_text::Text;

@@ -1,11 +1,12 @@
 //! Which steps commit a change.
 ghost use Rattle.std.specs.Prelude.{◌≡◌};
-ghost use Rattle.ds_world.specs.Store.{is_change, commits_at, has_idle, has_committed};
+ghost use Rattle.ds_conduct.specs.Marks.{has_idle, has_committed};
+ghost use Rattle.ds_log.specs.Store.{is_change, commits_at};
 
 use crate::slots::slot_in;
 use ds_base::{Command, Gen, Sector, SectorNo, SlotNo};
+use ds_log::Step;
 use ds_marks::{Journal, Slot};
-use ds_world::Step;
 
 /// Whether a step is told as a commit.
 pub(crate) fn is_change(step: &Step) -> bool

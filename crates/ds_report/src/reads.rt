@@ -4,10 +4,10 @@ ghost use Rattle.ds_report.specs.Report.{read_text, got_text, byte_read, byte_of
 
 use crate::answers::write_item;
 use ds_base::{Command, HostNo, NoMemory, Response};
-use ds_host::HostAnswer;
+use ds_conduct::HostAnswer;
+use ds_log::{Event, Reply, Step};
 use ds_text::Text;
 use ds_tree::{Directive, HostCallOf, TreeReply};
-use ds_world::{Event, Reply, Step};
 
 /// Writes the byte that a `get` read, after a blank. The events are those up to the reply.
 pub(crate) fn write_read(

@@ -1,15 +1,15 @@
 //! The lines of replies.
 ghost use Rattle.std.specs.Prelude.{◌≡◌, ◌++◌, OnOk, option_copied};
-ghost use Rattle.ds_world.specs.Scripts.{directive_at};
+ghost use Rattle.ds_log.specs.Scripts.{directive_at};
 ghost use Rattle.ds_report.specs.Report.{reply_line, directive_text, outcome_text, word_of};
 
 use crate::answers::{write_answer, write_place};
 use crate::hosts::host_name;
 use crate::reads::write_read;
 use ds_base::{HostNo, NoMemory};
+use ds_log::{Event, Reply};
 use ds_text::Text;
 use ds_tree::{Directive, Scenario, call_word};
-use ds_world::{Event, Reply};
 
 /// Writes the line of a reply. The events are those up to the reply.
 pub(crate) fn write_line(

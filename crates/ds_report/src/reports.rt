@@ -2,9 +2,9 @@
 ghost use Rattle.std.specs.Prelude.{◌≡◌, ◌+◌, ◌<◌, ◌++◌, length, take, OnOk, IfOk, codes, decimal};
 ghost use Rattle.std.specs.List.{flat_map};
 ghost use Rattle.ds_base.specs.Geometry.{IsGeom};
-ghost use Rattle.ds_world.specs.Logged.{AreInOrder};
-ghost use Rattle.ds_world.specs.Store.{change_count};
-ghost use Rattle.ds_world.specs.declared.logs.Event.{Event};
+ghost use Rattle.ds_log.specs.Logged.{AreInOrder};
+ghost use Rattle.ds_log.specs.Store.{change_count};
+ghost use Rattle.ds_log.specs.declared.logs.Event.{Event};
 ghost use Rattle.ds_report.specs.Turns.{TellsTurns};
 ghost use Rattle.ds_report.specs.Report.{report_of, parts_of, given_in, death_line, reply_line};
 ghost use Rattle.ds_text.specs.Lines.{line};
@@ -15,9 +15,9 @@ use crate::listings::write_listing;
 use crate::replies::write_line;
 use crate::slots::write_slot_line;
 use ds_base::NoMemory;
+use ds_log::{Event, Log, Reply};
 use ds_text::Text;
 use ds_tree::{Scenario, Tree};
-use ds_world::{Event, Log, Reply};
 use std::alloc::Global;
 
 /// The report of a run of this scenario, from the log of the run and the tree that it left.

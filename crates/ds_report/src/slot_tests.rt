@@ -1,18 +1,18 @@
 //! Reports of hosts that die, are broken and are replaced, and of what is read.
 ghost use Rattle.std.specs.Prelude.{◌≡◌};
-ghost use Rattle.ds_world.specs.Logged.{AreInOrder};
+ghost use Rattle.ds_log.specs.Logged.{AreInOrder};
 
 use crate::answers::write_answer;
 use crate::reports::whole;
 use ds_base::{Command, Gen, Geom, Key, NodeKind, Response, Sector, SlotNo, Word};
-use ds_host::{HostAnswer, Spot};
+use ds_conduct::{HostAnswer, Spot};
 use ds_lock::How;
+use ds_log::{Event, Reply, Step};
 use ds_marks::{Journal, Slot, SlotState};
 use ds_text::Text;
 use ds_tree::{
     CallOf, Directive, HostCallOf, HostPlan, Items, Point, Scenario, Spoken, Tree, TreeReply,
 };
-use ds_world::{Event, Reply, Step};
 use std::alloc::Global;
 use std::process::Abort;
 use std::test::Fail;

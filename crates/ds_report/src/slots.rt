@@ -10,10 +10,10 @@ use crate::hosts::host_name;
 use crate::pairs::write_pair;
 use ds_base::{Command, Gen, Geom, NoMemory, Sector, SectorNo, SlotNo};
 use ds_layout::{Place, place_of};
+use ds_log::{Event, Step};
 use ds_marks::{Slot, SlotState};
 use ds_text::Text;
 use ds_tree::Scenario;
-use ds_world::{Event, Step};
 
 /// Writes what an event did to a slot, if it did anything: one was broken, seized or freed.
 pub(crate) fn write_slot_line(

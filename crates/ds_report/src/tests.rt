@@ -7,12 +7,12 @@ use crate::listing;
 use crate::reports::{text, whole};
 use arrayvec::ArrayVec;
 use ds_base::{Command, Geom, Key, Kind, Name, NodeKind, Response, Sector, Word};
-use ds_host::HostAnswer;
+use ds_conduct::HostAnswer;
+use ds_log::{Event, Log, Reply, Step};
 use ds_text::Text;
 use ds_tree::{
     Call, CallOf, Directive, HostCallOf, HostPlan, Items, Scenario, Spoken, Tree, TreeReply,
 };
-use ds_world::{Event, Log, Reply, Step};
 use std::alloc::Global;
 use std::process::Abort;
 use std::test::Fail;

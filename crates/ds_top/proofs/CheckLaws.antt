@@ -3,7 +3,7 @@ use Rattle.std.proofs.Common.{◌≡◌, ℕ, ◌<◌, ⊎_elim, inl, inr, List,
 use Rattle.std.specs.Prelude.{Result, Ok, Err, IfSome, slice_get}
 use Rattle.ds_layout.specs.Volume.{IsVol, vol_bytes}
 use Rattle.ds_base.specs.declared.sectors.Sector.{Sector}
-use Rattle.ds_world.specs.LogValues.{LogValue}
+use Rattle.ds_log.specs.LogValues.{LogValue}
 use Rattle.ds_script.specs.declared.faults.What.TheVariants.{Bytes}
 use Rattle.ds_check.specs.declared.findings.Find.{Find}
 use Rattle.ds_check.specs.declared.checking.CheckFault.{CheckFault}

@@ -6,15 +6,15 @@ use Rattle.ds_base.specs.declared.geometry.Geom.{Geom}
 use Rattle.ds_tree.specs.declared.scenarios.Scenario.{Scenario}
 use Rattle.ds_tree.specs.Nodes.{FileTree}
 use Rattle.ds_tree.specs.FirstForm.{first_geom, IsFirstForm}
-use Rattle.ds_world.specs.declared.logs.Event.{Event}
-use Rattle.ds_world.specs.declared.logs.Reply.{Reply}
-use Rattle.ds_world.specs.LogValues.{LogValue}
-use Rattle.ds_world.specs.Store.{store, change_count}
-use Rattle.ds_world.specs.Commits.{commits}
-use Rattle.ds_world.specs.History.{Calls}
-use Rattle.ds_world.specs.Headline.{StandsAfter, Headline}
-use Rattle.ds_world.specs.Scripts.{calls_of}
-use Rattle.ds_world.specs.Follows.{Follows, IsAtEnd, InReplayOrder}
+use Rattle.ds_log.specs.declared.logs.Event.{Event}
+use Rattle.ds_log.specs.declared.logs.Reply.{Reply}
+use Rattle.ds_log.specs.LogValues.{LogValue}
+use Rattle.ds_log.specs.Store.{store, change_count}
+use Rattle.ds_log.specs.Commits.{commits}
+use Rattle.ds_log.specs.History.{Calls}
+use Rattle.ds_log.specs.Headline.{StandsAfter, Headline}
+use Rattle.ds_log.specs.Scripts.{calls_of}
+use Rattle.ds_log.specs.Follows.{Follows, IsAtEnd, InReplayOrder}
 use Rattle.ds_world.specs.FirstRules.{first_rules}
 use Rattle.ds_report.specs.Report.{report_of}
 use Rattle.ds_top.specs.Promise.{IsReplayOf}

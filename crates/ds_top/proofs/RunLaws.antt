@@ -5,7 +5,7 @@ use Rattle.ds_script.specs.declared.faults.What.TheVariants.{Bytes}
 use Rattle.ds_top.specs.declared.input.InputFault.{InputFault}
 use Rattle.ds_top.specs.declared.input.InputFault.TheVariants as inputs
 use Rattle.ds_base.specs.Outside.{Extends, HasRisen}
-use Rattle.ds_world.specs.LogValues.{LogValue}
+use Rattle.ds_log.specs.LogValues.{LogValue}
 use Rattle.ds_top.specs.declared.commands.Command.{Command}
 use Rattle.ds_top.specs.declared.commands.Command.TheVariants.{Replay, Format, Check, Tree}
 use Rattle.ds_top.specs.declared.outcome.Why.{Why}

@@ -5,12 +5,12 @@ use Rattle.ds_base.specs.declared.sectors.Sector.{Sector}
 use Rattle.ds_base.specs.Outside.{Extends}
 use Rattle.ds_tree.specs.declared.scenarios.Scenario.{Scenario}
 use Rattle.ds_tree.specs.Nodes.{FileTree}
-use Rattle.ds_world.specs.LogValues.{LogValue}
-use Rattle.ds_world.specs.Commits.{commits}
-use Rattle.ds_world.specs.Store.{change_count}
-use Rattle.ds_world.specs.Headline.{Headline}
-use Rattle.ds_world.specs.Scripts.{calls_of}
-use Rattle.ds_world.specs.Follows.{Follows, IsAtEnd, InReplayOrder}
+use Rattle.ds_log.specs.LogValues.{LogValue}
+use Rattle.ds_log.specs.Commits.{commits}
+use Rattle.ds_log.specs.Store.{change_count}
+use Rattle.ds_log.specs.Headline.{Headline}
+use Rattle.ds_log.specs.Scripts.{calls_of}
+use Rattle.ds_log.specs.Follows.{Follows, IsAtEnd, InReplayOrder}
 use Rattle.ds_world.specs.FirstRules.{first_rules}
 use Rattle.ds_report.specs.Report.{report_of}
 use Rattle.ds_image.specs.Formatted.{IsFormatted}

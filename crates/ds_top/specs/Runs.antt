@@ -4,7 +4,7 @@ use Rattle.ds_base.specs.Outside.{Extends, HasRisen}
 use Rattle.ds_tree.specs.declared.scenarios.Scenario.{Scenario}
 use Rattle.ds_base.specs.declared.geometry.Geom.{Geom}
 use Rattle.ds_base.specs.declared.sectors.Sector.{Sector}
-use Rattle.ds_world.specs.LogValues.{LogValue}
+use Rattle.ds_log.specs.LogValues.{LogValue}
 use Rattle.ds_image.specs.Formatted.{IsFormatted}
 use Rattle.ds_script.specs.Answers.{IsVolumeText}
 use Rattle.ds_check.specs.declared.findings.Find.{Find}

@@ -5,8 +5,8 @@ ghost use Rattle.ds_top.specs.Outcomes.{status_of};
 use crate::input::InputFault;
 use ds_base::{HostNo, NoMemory, SectorNo};
 use ds_check::CheckFault;
+use ds_log::Log;
 use ds_script::{LineFault, ScriptFault, What};
-use ds_world::Log;
 use std::fmt;
 
 /// How a run of the program ended: its exit status, why, and for a replay with output its log.

@@ -8,7 +8,7 @@ ghost use Rattle.ds_top.specs.Runs.{Writes, bytes_in};
 
 use crate::outcome::{Outcome, Why};
 use ds_base::{Gave, Sector, Sink};
-use ds_world::Log;
+use ds_log::Log;
 use thiserror::Error;
 
 /// The sink failed.

@@ -1,7 +1,7 @@
 //! The replay of a scenario.
 ghost use Rattle.std.specs.Prelude.{◌≡◌, ◌≤◌, IfOk, OnOk, MatchResult, length};
 ghost use Rattle.ds_tree.specs.FirstForm.{IsFirstForm};
-ghost use Rattle.ds_world.specs.Scripts.{list_of};
+ghost use Rattle.ds_log.specs.Scripts.{list_of};
 ghost use Rattle.ds_script.specs.Answers.{IsScenarioText};
 ghost use Rattle.ds_top.specs.declared.commands.Command.{Command};
 ghost use Rattle.ds_top.specs.Causes.{IsRunnable};
@@ -11,9 +11,10 @@ ghost use Rattle.ds_top.specs.Runs.{IsCaused, IsMadeOf, IsRefusedOf, bytes_in};
 use crate::outcome::Why;
 use crate::output::Output;
 use ds_base::NoMemory;
+use ds_log::{Log, Moved};
 use ds_script::read;
 use ds_tree::Scenario;
-use ds_world::{FirstWorld, Log, Moved, not_built};
+use ds_world::{FirstWorld, not_built};
 use std::alloc::Global;
 
 /// Makes the report of the replay of the scenario that these bytes are.

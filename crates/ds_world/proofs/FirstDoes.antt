@@ -24,7 +24,7 @@ use Rattle.ds_tree.specs.FirstForm.{first_geom}
 use Rattle.ds_dir.specs.declared.sub_block.Entry.{Entry}
 use Rattle.ds_host.specs.FirstConduct.{reply_to_lookup}
 use Rattle.ds_world.specs.FirstRules.{NumberedFrom, entries_map, rooms_for, file_of, with_file, tree_of}
-use Rattle.ds_world.proofs.Pushes.{fold-push}
+use Rattle.ds_log.proofs.Pushes.{fold-push}
 use Rattle.ds_world.proofs.FirstTree.{files_in, length-files, object_below, object_past, file_found, found_by_name, get-entries_map, len-entries_map, used-files}
 
 pub does_refused : (g : Geom) (t : FileTree) (call : CallOf Key) (reply : TreeReply) → refusal g t call ≡ Some reply → Does g t call reply t

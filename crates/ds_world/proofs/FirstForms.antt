@@ -17,7 +17,7 @@ use Rattle.ds_tree.specs.declared.variables.Spoken.{Spoken}
 use Rattle.ds_tree.specs.declared.variables.Spoken.TheVariants.{Root}
 use Rattle.ds_tree.specs.FirstForm.{register, first_geom, is_create, IsFirstDirective, IsFirstList, IsFirstForm, BeginsFirst, IsFirstBreak, BreaksAt, HasOtherList, NotBuiltAt}
 use Rattle.ds_tree.specs.Grammar.{IsScenario, IsStep}
-use Rattle.ds_world.proofs.Pushes.{get-within}
+use Rattle.ds_log.proofs.Pushes.{get-within}
 use Rattle.ds_world.proofs.FirstScripts.{listed_directive}
 
 -- Lists

@@ -25,8 +25,8 @@ use Rattle.ds_tree.specs.FirstForm.{register, IsFirstDirective}
 use Rattle.ds_dir.specs.declared.sub_block.Entry.{Entry}
 use Rattle.ds_dir.specs.declared.sub_block.SubBlock.{SubBlock}
 use Rattle.ds_dir.proofs.Laws.{sub_same}
-use Rattle.ds_host.specs.declared.answers.HostAnswer.{HostAnswer}
-use Rattle.ds_host.specs.declared.answers.HostAnswer.TheVariants.{Tree, Registered}
+use Rattle.ds_conduct.specs.declared.answers.HostAnswer.{HostAnswer}
+use Rattle.ds_conduct.specs.declared.answers.HostAnswer.TheVariants.{Tree, Registered}
 use Rattle.ds_host.specs.declared.first_host.RootCall.{RootCall}
 use Rattle.ds_host.specs.declared.first_host.RootCall.TheVariants.{Create, Lookup}
 use Rattle.ds_host.specs.declared.first_host.Stage.{Stage}
@@ -34,13 +34,13 @@ use Rattle.ds_host.specs.declared.first_host.Stage.TheVariants.{Rest, Reading, F
 use Rattle.ds_host.specs.FirstStates.{FirstState}
 use Rattle.ds_host.specs.Rooms.{entries_in, entry_named, has_free_room, next_key}
 use Rattle.ds_host.specs.FirstConduct.{tree_call, due, IsFirstCall, Begins, SpellsRooms, ReadsRooms, Reads, Fills, Takes, MayTake, reply_to_lookup, at_stage}
-use Rattle.ds_world.specs.Scripts.{list_of}
+use Rattle.ds_log.specs.Scripts.{list_of}
 use Rattle.ds_tree.specs.Nodes.{FileTree}
 use Rattle.ds_tree.specs.FirstForm.{first_geom}
-use Rattle.ds_world.specs.Store.{store}
+use Rattle.ds_log.specs.Store.{store}
 use Rattle.ds_world.specs.FirstRules.{first_rules, tree_of, IsTreeOf}
 use Rattle.ds_world.specs.FirstWorlds.{FirstWorldValue, turns_at, root_directive, name_of, AsksFor, IsReading, IsSwapping, stepped, sent_event, local_event, reply_now, place_of, FirstHolds}
-use Rattle.ds_world.proofs.Pushes.{get-within}
+use Rattle.ds_log.proofs.Pushes.{get-within}
 use Rattle.ds_world.proofs.FirstDoes.{named, does_lookup, does_exist}
 use Rattle.ds_world.proofs.FirstScripts.{host_list, directive_of_list, head_of_list, list_is_short}
 use Rattle.ds_world.proofs.FirstSteps.{creates_left}

@@ -15,10 +15,10 @@ use Rattle.ds_tree.specs.FirstForm.{register, is_create, IsFirstDirective, IsFir
 use Rattle.ds_host.specs.declared.first_host.RootCall.{RootCall}
 use Rattle.ds_host.specs.declared.first_host.RootCall.TheVariants.{Create, Lookup}
 use Rattle.ds_host.specs.FirstConduct.{tree_call}
-use Rattle.ds_world.specs.declared.logs.Event.{Event}
-use Rattle.ds_world.specs.declared.logs.Reply.{Reply}
-use Rattle.ds_world.specs.Scripts.{list_of, directive_at, key_of, call_of, calls_of}
-use Rattle.ds_world.specs.Follows.{ticks_of, clock}
+use Rattle.ds_log.specs.declared.logs.Event.{Event}
+use Rattle.ds_log.specs.declared.logs.Reply.{Reply}
+use Rattle.ds_log.specs.Scripts.{list_of, directive_at, key_of, call_of, calls_of, ticks_of}
+use Rattle.ds_log.specs.Follows.{clock}
 use Rattle.ds_world.specs.FirstWorlds.{root_directive}
 
 abbrev pub plan_list : Option HostPlan → List Directive

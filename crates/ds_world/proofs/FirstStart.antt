@@ -23,15 +23,15 @@ use Rattle.ds_host.specs.declared.first_host.Stage.TheVariants.{Rest}
 use Rattle.std.proofs.Math.Seq.{drop-length}
 use Rattle.std.proofs.lemmas.Option.{slice_get-get_or}
 use Rattle.std.proofs.lemmas.Bool.Decides.{nat_tests}
-use Rattle.ds_world.specs.declared.logs.Event.{Event}
-use Rattle.ds_world.specs.declared.logs.Reply.{Reply}
-use Rattle.ds_world.specs.History.{Calls}
-use Rattle.ds_world.specs.Headline.{StandsAfter, Headline}
-use Rattle.ds_world.specs.Scripts.{list_of, key_of, call_of, calls_of}
-use Rattle.ds_world.specs.Store.{change_count}
-use Rattle.ds_world.specs.Commits.{commits}
-use Rattle.ds_world.specs.Follows.{is_reply_before, finished, IsNext, IsAtEnd, AreOf, NoneOf, InReplayOrder}
-use Rattle.ds_world.specs.Moments.{EachEvent}
+use Rattle.ds_log.specs.declared.logs.Event.{Event}
+use Rattle.ds_log.specs.declared.logs.Reply.{Reply}
+use Rattle.ds_log.specs.History.{Calls}
+use Rattle.ds_log.specs.Headline.{StandsAfter, Headline}
+use Rattle.ds_log.specs.Scripts.{list_of, key_of, call_of, calls_of}
+use Rattle.ds_log.specs.Store.{change_count}
+use Rattle.ds_log.specs.Commits.{commits}
+use Rattle.ds_log.specs.Follows.{is_reply_before, finished, IsNext, IsAtEnd, AreOf, NoneOf, InReplayOrder}
+use Rattle.ds_log.specs.Moments.{EachEvent}
 use Rattle.ds_world.specs.FirstRules.{zero_sector, first_rules, tree_of}
 use Rattle.ds_world.specs.FirstWorlds.{FirstWorldValue, FirstHolds}
 use Rattle.ds_world.proofs.FirstScripts.{plan_list, host_list, no_list, directive_of_list, few_creates}

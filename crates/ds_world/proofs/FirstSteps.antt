@@ -8,13 +8,13 @@ use Rattle.ds_tree.specs.declared.scenarios.Directive.{Directive}
 use Rattle.ds_tree.specs.FirstForm.{is_create}
 use Rattle.ds_host.specs.declared.first_host.Stage.{Stage}
 use Rattle.ds_host.specs.declared.first_host.Stage.TheVariants.{Rest, Reading, Filling}
-use Rattle.ds_world.specs.declared.logs.Event.{Event}
-use Rattle.ds_world.specs.declared.logs.Reply.{Reply}
-use Rattle.ds_world.specs.Commits.{commits}
-use Rattle.ds_world.specs.History.{Change}
-use Rattle.ds_world.specs.Follows.{is_reply_before, finished, holding, held, generation_given, is_event_of}
+use Rattle.ds_log.specs.declared.logs.Event.{Event}
+use Rattle.ds_log.specs.declared.logs.Reply.{Reply}
+use Rattle.ds_log.specs.Commits.{commits}
+use Rattle.ds_log.specs.History.{Change}
+use Rattle.ds_log.specs.Follows.{is_reply_before, finished, holding, held, generation_given, is_event_of}
 use Rattle.ds_world.specs.FirstWorlds.{FirstWorldValue, StageHolds, AreReached, FirstHolds}
-use Rattle.ds_world.proofs.Pushes.{get-push_cases, get-within, count_by-push, fold-push}
+use Rattle.ds_log.proofs.Pushes.{get-push_cases, get-within, count_by-push, fold-push}
 
 -- The room of the log doesn't matter
 

@@ -19,8 +19,8 @@ use Rattle.ds_tree.specs.FirstForm.{is_create, first_geom, register}
 use Rattle.ds_tree.specs.Nodes.{FileTree, root_key}
 use Rattle.ds_tree.specs.Steps.{Does}
 use Rattle.ds_tree.proofs.StepKeeps.{step-keeps}
-use Rattle.ds_host.specs.declared.answers.HostAnswer.{HostAnswer}
-use Rattle.ds_host.specs.declared.answers.HostAnswer.TheVariants.{Tree, Registered}
+use Rattle.ds_conduct.specs.declared.answers.HostAnswer.{HostAnswer}
+use Rattle.ds_conduct.specs.declared.answers.HostAnswer.TheVariants.{Tree, Registered}
 use Rattle.ds_host.specs.declared.first_host.RootCall.{RootCall}
 use Rattle.ds_host.specs.declared.first_host.RootCall.TheVariants.{Create, Lookup}
 use Rattle.ds_host.specs.declared.first_host.Stage.{Stage}
@@ -29,23 +29,23 @@ use Rattle.ds_host.specs.Rooms.{entries_in, entry_named, with_entry, next_key, f
 use Rattle.ds_host.specs.FirstConduct.{SpellsRooms, tree_call, at_stage}
 use Rattle.ds_dir.specs.declared.sub_block.Entry.{Entry}
 use Rattle.ds_dir.specs.declared.sub_block.SubBlock.{SubBlock}
-use Rattle.ds_world.specs.declared.logs.Step.TheVariants.{Sent}
-use Rattle.ds_world.specs.declared.logs.Event.{Event}
-use Rattle.ds_world.specs.declared.logs.Reply.{Reply}
-use Rattle.ds_world.specs.Store.{store, after_step, is_change, change_count}
-use Rattle.ds_world.specs.Commits.{commits, commits_next}
-use Rattle.ds_world.specs.Moments.{AtEveryMoment}
-use Rattle.ds_world.specs.History.{Change, Stands}
-use Rattle.ds_world.specs.Headline.{StandsAfter}
-use Rattle.ds_world.specs.Scripts.{list_of, calls_of}
-use Rattle.ds_world.specs.Follows.{finished, held, is_event_of, IsCommand, Carries, IsNext}
+use Rattle.ds_log.specs.declared.logs.Step.TheVariants.{Sent}
+use Rattle.ds_log.specs.declared.logs.Event.{Event}
+use Rattle.ds_log.specs.declared.logs.Reply.{Reply}
+use Rattle.ds_log.specs.Store.{store, after_step, is_change, change_count}
+use Rattle.ds_log.specs.Commits.{commits, commits_next}
+use Rattle.ds_log.specs.Moments.{AtEveryMoment}
+use Rattle.ds_log.specs.History.{Change, Stands}
+use Rattle.ds_log.specs.Headline.{StandsAfter}
+use Rattle.ds_log.specs.Scripts.{list_of, calls_of}
+use Rattle.ds_log.specs.Follows.{finished, held, is_event_of, IsCommand, Carries, IsNext}
 use Rattle.ds_world.specs.FirstRules.{first_rules, tree_of}
 use Rattle.ds_world.specs.FirstWorlds.{FirstWorldValue, root_directive, IsUnderWay, IsFilling, StageHolds, sent_at, stepped, sent_event, local_event, reply_now, FirstHolds}
-use Rattle.ds_world.proofs.Pushes.{length-push, get-push_last, get-push_cases, get-within, take-push_whole, count_by-push}
-use Rattle.ds_world.proofs.Growing.{store-push, commits-take, commits-push_none, commits-push_one, AtEveryMoment-push, AtEveryMoment-map}
-use Rattle.ds_world.proofs.Legal.{IsLegal-event, IsLegal-change, IsLegal-reply}
-use Rattle.ds_world.proofs.Whole.{whole-reply, whole-event, whole-commit, StandsAfter-tree}
-use Rattle.ds_world.proofs.Following.{finished-later, held-later, follows-event, follows-answered}
+use Rattle.ds_log.proofs.Pushes.{length-push, get-push_last, get-push_cases, get-within, take-push_whole, count_by-push}
+use Rattle.ds_log.proofs.Growing.{store-push, commits-take, commits-push_none, commits-push_one, AtEveryMoment-push, AtEveryMoment-map}
+use Rattle.ds_log.proofs.Legal.{IsLegal-event, IsLegal-change, IsLegal-reply}
+use Rattle.ds_log.proofs.Whole.{whole-reply, whole-event, whole-commit, StandsAfter-tree}
+use Rattle.ds_log.proofs.Following.{finished-later, held-later, follows-event, follows-answered}
 use Rattle.ds_world.proofs.FirstScripts.{calls_of-next, calls_of-register, clock-first}
 use Rattle.ds_world.proofs.FirstDoes.{named, numbered-push, does_create}
 use Rattle.ds_world.proofs.FirstSteps.{none_later, creates_left, done-push, own-push, reached-event, reached-reply, reached-change}

@@ -1,8 +1,3 @@
-pub mod Pushes
-pub mod Growing
-pub mod Legal
-pub mod Whole
-pub mod Following
 pub mod FirstTree
 pub mod FirstDoes
 pub mod FirstScripts

@@ -11,9 +11,9 @@ use Rattle.ds_dir.specs.declared.sub_block.Entry.{Entry}
 use Rattle.ds_dir.specs.declared.sub_block.SubBlock.{SubBlock}
 use Rattle.ds_host.specs.Rooms.{entries_in}
 use Rattle.ds_host.specs.FirstConduct.{SpellsRooms}
-use Rattle.ds_world.specs.declared.logs.Step.{Step}
-use Rattle.ds_world.specs.declared.logs.Step.TheVariants.{Local, Sent}
-use Rattle.ds_world.specs.Rules.{Rules}
+use Rattle.ds_log.specs.declared.logs.Step.{Step}
+use Rattle.ds_log.specs.declared.logs.Step.TheVariants.{Local, Sent}
+use Rattle.ds_log.specs.Rules.{Rules}
 
 -- the sector whose bytes are all zero
 abbrev pub zero_sector : Sector

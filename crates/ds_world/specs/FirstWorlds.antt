@@ -17,8 +17,8 @@ use Rattle.ds_tree.specs.WellFormed.{IsTree}
 use Rattle.ds_tree.specs.FirstForm.{register, first_geom, is_create, IsFirstForm}
 use Rattle.ds_dir.specs.declared.sub_block.Entry.{Entry}
 use Rattle.ds_dir.specs.declared.sub_block.SubBlock.{SubBlock}
-use Rattle.ds_host.specs.declared.answers.HostAnswer.{HostAnswer}
-use Rattle.ds_host.specs.declared.answers.HostAnswer.TheVariants.{Tree}
+use Rattle.ds_conduct.specs.declared.answers.HostAnswer.{HostAnswer}
+use Rattle.ds_conduct.specs.declared.answers.HostAnswer.TheVariants.{Tree}
 use Rattle.ds_host.specs.declared.first_host.RootCall.{RootCall}
 use Rattle.ds_host.specs.declared.first_host.RootCall.TheVariants.{Create, Lookup}
 use Rattle.ds_host.specs.declared.first_host.Stage.{Stage}
@@ -26,18 +26,18 @@ use Rattle.ds_host.specs.declared.first_host.Stage.TheVariants.{Rest, Reading, F
 use Rattle.ds_host.specs.FirstStates.{FirstState}
 use Rattle.ds_host.specs.Rooms.{entry_named, with_entry, next_key, file_entry}
 use Rattle.ds_host.specs.FirstConduct.{SpellsRooms, tree_call}
-use Rattle.ds_world.specs.declared.logs.Step.TheVariants.{Local, Sent}
-use Rattle.ds_world.specs.declared.logs.Event.{Event}
-use Rattle.ds_world.specs.declared.logs.Reply.{Reply}
-use Rattle.ds_world.specs.declared.moves.Moved.{Moved}
-use Rattle.ds_world.specs.declared.moves.Moved.TheVariants as moved
-use Rattle.ds_world.specs.LogValues.{LogValue}
-use Rattle.ds_world.specs.Store.{store, change_count}
-use Rattle.ds_world.specs.Moments.{AtEveryMoment}
-use Rattle.ds_world.specs.History.{Change, IsWholeOrNot, IsLegal}
-use Rattle.ds_world.specs.Headline.{StandsAfter}
-use Rattle.ds_world.specs.Scripts.{list_of, calls_of}
-use Rattle.ds_world.specs.Follows.{is_event_of, finished, held, Follows}
+use Rattle.ds_log.specs.declared.logs.Step.TheVariants.{Local, Sent}
+use Rattle.ds_log.specs.declared.logs.Event.{Event}
+use Rattle.ds_log.specs.declared.logs.Reply.{Reply}
+use Rattle.ds_log.specs.declared.moves.Moved.{Moved}
+use Rattle.ds_log.specs.declared.moves.Moved.TheVariants as moved
+use Rattle.ds_log.specs.LogValues.{LogValue}
+use Rattle.ds_log.specs.Store.{store, change_count}
+use Rattle.ds_log.specs.Moments.{AtEveryMoment}
+use Rattle.ds_log.specs.History.{Change, IsWholeOrNot, IsLegal}
+use Rattle.ds_log.specs.Headline.{StandsAfter}
+use Rattle.ds_log.specs.Scripts.{list_of, calls_of}
+use Rattle.ds_log.specs.Follows.{is_event_of, finished, held, Follows}
 use Rattle.ds_world.specs.FirstRules.{NumberedFrom, first_rules, tree_of}
 
 -- the scenario, the number of directives that its host has finished, the host, the sectors of the device, the number of

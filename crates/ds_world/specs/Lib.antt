@@ -1,13 +1,3 @@
-pub mod LogValues
-pub mod Logged
-pub mod Store
-pub mod Moments
-pub mod Rules
-pub mod Commits
-pub mod History
-pub mod Headline
-pub mod Scripts
-pub mod Follows
 pub mod FirstRules
 pub mod FirstWorlds
 pub mod FirstTrees

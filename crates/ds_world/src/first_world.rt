@@ -8,20 +8,20 @@ ghost use Rattle.ds_tree.specs.FirstForm.{IsFirstForm, IsFirstDirective, registe
 ghost use Rattle.ds_host.specs.declared.first_host.RootCall.{RootCall};
 ghost use Rattle.ds_host.specs.declared.first_host.Stage.TheVariants as stages;
 ghost use Rattle.ds_host.specs.FirstConduct.{SpellsRooms, tree_call, due};
-ghost use Rattle.ds_world.specs.Headline.{Headline};
-ghost use Rattle.ds_world.specs.Scripts.{calls_of, list_of};
-ghost use Rattle.ds_world.specs.Store.{store, change_count};
-ghost use Rattle.ds_world.specs.Commits.{commits};
-ghost use Rattle.ds_world.specs.Follows.{Follows, IsAtEnd, InReplayOrder};
+ghost use Rattle.ds_log.specs.Headline.{Headline};
+ghost use Rattle.ds_log.specs.Scripts.{calls_of, list_of};
+ghost use Rattle.ds_log.specs.Store.{store, change_count};
+ghost use Rattle.ds_log.specs.Commits.{commits};
+ghost use Rattle.ds_log.specs.Follows.{Follows, IsAtEnd, InReplayOrder};
 ghost use Rattle.ds_world.specs.FirstRules.{first_rules, zero_sector};
 ghost use Rattle.ds_world.specs.FirstWorlds.{root_directive, name_of, place_of, IsSameButRoom, AddsEvent, Turns, AsksFor, IsDue, IsReading, IsSwapping};
 
 use crate::first_tree::tree_of_block;
-use crate::logs::{Event, Log, Reply, Step};
-use crate::moves::Moved;
 use ds_base::{Command, HostNo, Key, Next, NoMemory, Response, Sector, Word};
+use ds_conduct::HostAnswer;
 use ds_dir::SubBlock;
-use ds_host::{FirstHost, HostAnswer};
+use ds_host::FirstHost;
+use ds_log::{Event, Log, Moved, Reply, Step};
 use ds_lun::MemLun;
 use ds_target::send;
 use ds_tree::{Call, CallOf, Directive, HostCall, HostCallOf, Scenario, Spoken, Tree};

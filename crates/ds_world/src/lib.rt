@@ -6,10 +6,6 @@ mod first_form_tests;
 mod first_forms;
 mod first_tree;
 mod first_world;
-mod logs;
-mod moves;
 
 pub use first_forms::not_built;
 pub use first_world::FirstWorld;
-pub use logs::{Event, Log, Reply, Step};
-pub use moves::Moved;

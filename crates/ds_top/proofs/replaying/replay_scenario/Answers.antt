@@ -1,8 +1,8 @@
 use Rattle.std.proofs.Common.{◌≡◌, sym, subst, ◌∙◌}
 use Rattle.ds_base.specs.Geometry.{IsGeom}
 use Rattle.ds_tree.specs.Nodes.{FileTree}
-use Rattle.ds_world.specs.LogValues.{LogValue}
-use Rattle.ds_world.specs.Store.{store}
+use Rattle.ds_log.specs.LogValues.{LogValue}
+use Rattle.ds_log.specs.Store.{store}
 use Rattle.ds_world.specs.FirstRules.{first_rules}
 use Rattle.ds_world.proofs.FirstStart.{first_geom-is}
 use Rattle.ds_top.proofs.PromiseLaws.{replayed}

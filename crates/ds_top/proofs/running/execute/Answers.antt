@@ -1,5 +1,5 @@
 use Rattle.std.proofs.Common.{Option, sym, subst}
-use Rattle.ds_world.specs.LogValues.{LogValue}
+use Rattle.ds_log.specs.LogValues.{LogValue}
 use Rattle.ds_top.specs.Runs.{Ends, bytes_in}
 use Rattle.ds_top.proofs.RunLaws.{ends_written}
 use Rattle.ds_top.proofs.running.execute.Goals as goal

@@ -1,15 +1,15 @@
 use Rattle.std.specs.Prelude.{min}
 use Rattle.std.proofs.Common.{inr, ◌≡◌, ◌+◌, ◌++◌, ◌∷◌, [], length, refl, sym, ap, subst, ◌∙◌, arith, Some}
 use Rattle.ds_host.specs.declared.first_host.Stage.TheVariants.{Rest}
-use Rattle.ds_world.specs.declared.logs.Event.{Event}
-use Rattle.ds_world.specs.declared.logs.Reply.{Reply}
-use Rattle.ds_world.specs.Scripts.{list_of}
+use Rattle.ds_log.specs.declared.logs.Event.{Event}
+use Rattle.ds_log.specs.declared.logs.Reply.{Reply}
+use Rattle.ds_log.specs.Scripts.{list_of}
 use Rattle.ds_world.specs.FirstWorlds.{FirstWorldValue, FirstHolds, AddsEvent, local_event, reply_now, place_of, turns_at, stepped}
 use Rattle.ds_world.proofs.FirstSteps.{FirstHolds-as}
 use Rattle.ds_world.proofs.FirstMoves.{fewer_answered}
 use Rattle.std.specs.Prelude.{slice_get}
 use Rattle.ds_host.specs.FirstStates.{FirstState}
-use Rattle.ds_world.proofs.Pushes.{get-within}
+use Rattle.ds_log.proofs.Pushes.{get-within}
 use Rattle.ds_world.proofs.FirstMoves.{short_list, may_begin, begun, begun_answered, moved-begun, moved-registered}
 use Rattle.ds_world.proofs.first_world.FirstWorld.begin.Goals as goal
 

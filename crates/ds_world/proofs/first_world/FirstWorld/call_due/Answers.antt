@@ -4,7 +4,7 @@ use Rattle.std.specs.Prelude.{slice_get}
 use Rattle.std.proofs.lemmas.Option.{slice_get_read}
 use Rattle.ds_world.specs.FirstWorlds.{FirstWorldValue, FirstHolds}
 use Rattle.ds_tree.specs.declared.scenarios.Directive.{Directive}
-use Rattle.ds_world.specs.Scripts.{list_of}
+use Rattle.ds_log.specs.Scripts.{list_of}
 use Rattle.ds_world.proofs.FirstMoves.{directive_listed}
 use Rattle.ds_world.proofs.first_world.FirstWorld.call_due.Goals as goal
 

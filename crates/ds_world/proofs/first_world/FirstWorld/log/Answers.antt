@@ -1,9 +1,9 @@
 use Rattle.std.proofs.Common.{◌≤◌, length, ap, subst}
 use Rattle.ds_tree.specs.declared.scenarios.Scenario.{Scenario}
 use Rattle.ds_tree.specs.FirstForm.{first_geom}
-use Rattle.ds_world.specs.Headline.{Headline}
-use Rattle.ds_world.specs.Scripts.{list_of, calls_of}
-use Rattle.ds_world.specs.Follows.{IsAtEnd, InReplayOrder}
+use Rattle.ds_log.specs.Headline.{Headline}
+use Rattle.ds_log.specs.Scripts.{list_of, calls_of}
+use Rattle.ds_log.specs.Follows.{IsAtEnd, InReplayOrder}
 use Rattle.ds_world.specs.FirstRules.{first_rules}
 use Rattle.ds_world.specs.FirstWorlds.{FirstWorldValue}
 use Rattle.ds_world.proofs.FirstStart.{headline_of, is_in_order, is_at_end, changes_counted}

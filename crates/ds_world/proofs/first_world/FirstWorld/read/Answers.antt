@@ -1,11 +1,11 @@
 use Rattle.std.specs.Prelude.{min}
 use Rattle.std.proofs.Common.{inl, inr, ◌≡◌, ◌+◌, ◌++◌, ◌∷◌, [], false, length, refl, sym, ap, subst, ◌∙◌, arith, Option}
 use Rattle.ds_base.specs.declared.commands.Command.TheVariants.{Read}
-use Rattle.ds_host.specs.declared.answers.HostAnswer.{HostAnswer}
+use Rattle.ds_conduct.specs.declared.answers.HostAnswer.{HostAnswer}
 use Rattle.ds_host.specs.declared.first_host.Stage.TheVariants.{Reading}
-use Rattle.ds_world.specs.declared.logs.Event.{Event}
-use Rattle.ds_world.specs.declared.logs.Reply.{Reply}
-use Rattle.ds_world.specs.Scripts.{list_of}
+use Rattle.ds_log.specs.declared.logs.Event.{Event}
+use Rattle.ds_log.specs.declared.logs.Reply.{Reply}
+use Rattle.ds_log.specs.Scripts.{list_of}
 use Rattle.ds_world.specs.FirstWorlds.{FirstWorldValue, FirstHolds, AddsEvent, sent_event, reply_now, place_of, turns_at, stepped}
 use Rattle.ds_world.proofs.FirstSteps.{FirstHolds-as}
 use Rattle.ds_world.proofs.FirstMoves.{short_list, was_due, may_take_read, moved-read, IsRead, GoesOn, IsAnswered, fewer_answered, fewer_filling}

@@ -1,11 +1,11 @@
 use Rattle.std.specs.Prelude.{min}
 use Rattle.std.proofs.Common.{inr, ◌≡◌, ◌+◌, ◌++◌, ◌∷◌, [], true, false, length, refl, sym, ap, subst, ◌∙◌, arith, Option}
 use Rattle.ds_base.specs.declared.commands.Command.TheVariants.{Swap}
-use Rattle.ds_host.specs.declared.answers.HostAnswer.{HostAnswer}
+use Rattle.ds_conduct.specs.declared.answers.HostAnswer.{HostAnswer}
 use Rattle.ds_host.specs.declared.first_host.Stage.TheVariants.{Filling}
-use Rattle.ds_world.specs.declared.logs.Event.{Event}
-use Rattle.ds_world.specs.declared.logs.Reply.{Reply}
-use Rattle.ds_world.specs.Scripts.{list_of}
+use Rattle.ds_log.specs.declared.logs.Event.{Event}
+use Rattle.ds_log.specs.declared.logs.Reply.{Reply}
+use Rattle.ds_log.specs.Scripts.{list_of}
 use Rattle.ds_world.specs.FirstWorlds.{FirstWorldValue, FirstHolds, AddsEvent, sent_event, reply_now, place_of, turns_at, stepped}
 use Rattle.ds_world.proofs.FirstSteps.{FirstHolds-as}
 use Rattle.ds_world.proofs.FirstMoves.{short_list, was_due_filling, moved-swap, IsSwapped, IsCommitted, swap_due, fewer_committed}

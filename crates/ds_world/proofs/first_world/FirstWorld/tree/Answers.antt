@@ -6,7 +6,7 @@ use Rattle.ds_tree.specs.FirstForm.{first_geom}
 use Rattle.ds_tree.specs.WellFormed.{IsTree}
 use Rattle.ds_dir.specs.declared.sub_block.Entry.{Entry}
 use Rattle.ds_host.specs.FirstConduct.{SpellsRooms}
-use Rattle.ds_world.specs.Store.{store}
+use Rattle.ds_log.specs.Store.{store}
 use Rattle.ds_world.specs.FirstRules.{NumberedFrom, first_rules, tree_of, IsTreeOf}
 use Rattle.ds_world.specs.FirstWorlds.{FirstWorldValue, FirstHolds}
 use Rattle.ds_world.proofs.FirstMoves.{block_entries, tree_stands, tree_only}

@@ -1,0 +1,4 @@
+pub mod Spelt
+pub mod Places
+pub mod Rests
+pub mod KindsOf

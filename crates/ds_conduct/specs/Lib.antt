@@ -1,0 +1,14 @@
+pub mod Marks
+pub mod Exchanges
+pub mod Digests
+pub mod Judging
+pub mod Settings
+pub mod Headers
+pub mod Journals
+pub mod Guards
+pub mod Causes
+pub mod Answers
+pub mod Begins
+pub mod Resting
+pub mod Kinds
+pub mod Conducts

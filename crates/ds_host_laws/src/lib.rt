@@ -1,0 +1,2 @@
+//! What hosts' runs mean for their conduct, as lemmas.
+#![tactic(auto)]

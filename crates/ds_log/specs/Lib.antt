@@ -1,0 +1,16 @@
+pub mod LogValues
+pub mod Logged
+pub mod Store
+pub mod Moments
+pub mod Rules
+pub mod Commits
+pub mod History
+pub mod Headline
+pub mod Scripts
+pub mod Follows
+pub mod Volumes
+pub mod Turns
+pub mod Histories
+pub mod Standing
+pub mod Effects
+pub mod Fences

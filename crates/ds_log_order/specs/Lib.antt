@@ -1,0 +1,12 @@
+pub mod Told
+pub mod Progress
+pub mod Waiting
+pub mod HostFacts
+pub mod LogProgress
+pub mod Follows
+pub mod Order
+pub mod TurnsLeft
+pub mod Turned
+pub mod KeepsUp
+pub mod CallTurns
+pub mod Execution
