@@ -6,3 +6,4 @@ pub mod LockSteps
 pub mod Locks
 pub mod LockEnds
 pub mod LockGoes
+pub mod LockBreaks

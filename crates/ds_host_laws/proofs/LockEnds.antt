@@ -242,17 +242,17 @@ module _ (setting : Setting) (d : Digest) (own : Own) (run : LockValue) (xs ys :
       })
 
   -- and how it was got
-  pub got-is : Fits command response → response ≢ Fault → Leads run' (Some ends.Got) notes now (x ∷ xs) → IsGot run.wanted x
-  got-is fits sound leads =
+  pub got-how : Fits command response → response ≢ Fault → Leads run' (Some ends.Got) notes now (x ∷ xs) → IsGot run.wanted x
+  got-how fits sound leads =
       let by_pass = ended-by setting d own run xs ys taking now command due response run' ends.Got notes same leads.0 in
       let older = pass-front wanted run'.missed (x ∷ xs) by_pass.0 by_pass.1 in
       subst (λ v. IsGot v x) (sym (wanted-is setting d own run xs ys taking))
       (got-by fits sound by_pass.0 (pass-is by_pass.0 by_pass.1) by_pass.2 older.0 older.1)
 
   -- what is damaged
-  pub got-damaged : (IsPlanned : CallOf Key → List ℕ → Type 0) (at : ℕ) → Leads run' (Some (ends.Damaged at)) notes now (x ∷ xs)
+  pub damaged-shown : (IsPlanned : CallOf Key → List ℕ → Type 0) (at : ℕ) → Leads run' (Some (ends.Damaged at)) notes now (x ∷ xs)
       → causes.IsDamaged setting own (x ∷ d.exchanges) IsPlanned at
-  got-damaged IsPlanned at leads =
+  damaged-shown IsPlanned at leads =
       let by_pass = ended-by setting d own run xs ys taking now command due response run' (ends.Damaged at) notes same leads.0 in
       let all = exchanges-are setting d own run xs ys taking now command due response run'.missed by_pass.0 by_pass.1 in
       subst (λ l. causes.IsDamaged setting own l IsPlanned at) (sym all.1)
@@ -260,9 +260,9 @@ module _ (setting : Setting) (d : Digest) (own : Own) (run : LockValue) (xs ys :
       by_pass.2)
 
   -- what is worn out
-  pub got-worn : (IsPlanned : CallOf Key → List ℕ → Type 0) → Leads run' (Some ends.WornOut) notes now (x ∷ xs)
+  pub worn-shown : (IsPlanned : CallOf Key → List ℕ → Type 0) → Leads run' (Some ends.WornOut) notes now (x ∷ xs)
       → causes.IsWornOut setting own (x ∷ d.exchanges) IsPlanned
-  got-worn IsPlanned leads =
+  worn-shown IsPlanned leads =
       let by_pass = ended-by setting d own run xs ys taking now command due response run' ends.WornOut notes same leads.0 in
       let all = exchanges-are setting d own run xs ys taking now command due response run'.missed by_pass.0 by_pass.1 in
       let is = is-wanted setting d own run xs ys taking in
@@ -273,9 +273,9 @@ module _ (setting : Setting) (d : Digest) (own : Own) (run : LockValue) (xs ys :
       by_pass.2)
 
   -- what is to be broken
-  pub got-breakable : (slot : ℕ) (s : Slot) → Leads run' (Some (ends.NeedsBreak slot s)) notes now (x ∷ xs)
+  pub break-needed : (slot : ℕ) (s : Slot) → Leads run' (Some (ends.NeedsBreak slot s)) notes now (x ∷ xs)
       → ReadsBreakable setting.geom own (x ∷ d.exchanges) slot s
-  got-breakable slot s leads =
+  break-needed slot s leads =
       let by_pass = ended-by setting d own run xs ys taking now command due response run' (ends.NeedsBreak slot s) notes same leads.0 in
       let all = exchanges-are setting d own run xs ys taking now command due response run'.missed by_pass.0 by_pass.1 in
       subst (λ l. ReadsBreakable setting.geom own l slot s) (sym all.1)
