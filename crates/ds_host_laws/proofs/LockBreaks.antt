@@ -1,14 +1,13 @@
 -- A slot that has to be broken before a lock is taken may be broken.
-use Rattle.std.proofs.Common.{◌≡◌, ◌≢◌, ℕ, ◌+◌, ◌<◌, ◌≤◌, inl, inr, Bool, false, cond, List, [], ◌∷◌, ◌++◌, Option, Some, refl, sym, ap, subst, ◌∙◌, append_assoc, arith}
+use Rattle.std.proofs.Common.{◌≡◌, ◌≢◌, ℕ, ◌<◌, inl, inr, false, cond, List, []}
+use Rattle.std.proofs.Common.{◌∷◌, ◌++◌, Some, sym, ap, subst, ◌∙◌, append_assoc, arith}
 use Rattle.std.specs.Prelude.{◌==◌}
 use Rattle.std.specs.List.{Contains}
 use Rattle.std.proofs.lemmas.Bool.Decides.{nat_tests}
 use Rattle.ds_base.specs.Exchanges.{Exchange, IsLast, seen_of}
 use Rattle.ds_base.specs.declared.commands.Command.{Command}
-use Rattle.ds_base.specs.declared.commands.Command.TheVariants.{Read}
 use Rattle.ds_base.specs.declared.commands.Next.TheVariants as nexts
 use Rattle.ds_base.specs.declared.commands.Response.{Response}
-use Rattle.ds_base.specs.declared.commands.Response.TheVariants.{Got}
 use Rattle.ds_base.specs.declared.sectors.Sector.{Sector}
 use Rattle.ds_conduct.proofs.Places.{slot_number-of}
 use Rattle.ds_conduct.specs.Digests as digests
@@ -17,7 +16,7 @@ use Rattle.ds_conduct.specs.Guards.{MayBreak, SawOver}
 use Rattle.ds_conduct.specs.Guards as guards
 use Rattle.ds_conduct.specs.Marks.{slot_number}
 use Rattle.ds_conduct.specs.Settings.{Setting}
-use Rattle.ds_lock.proofs.Shown.{Contains-cases, Contains-none, newest-read, seen_of-append, slots-apart}
+use Rattle.ds_lock.proofs.Shown.{Contains-cases, Contains-none, seen_of-append, slots-apart}
 use Rattle.ds_lock.specs.Locking as locks
 use Rattle.ds_lock.specs.Locking.{read_of, slot_image, slot_sector}
 use Rattle.ds_lock.specs.Stages.{IsWanted, Leads, LockValue, due, notes_after}
@@ -28,12 +27,10 @@ use Rattle.ds_marks.specs.declared.slot.Slot.{Slot}
 use Rattle.ds_marks.specs.declared.slot.SlotState.TheVariants as states
 use Rattle.ds_watch.specs.Notes.{IsStale, Note}
 use Rattle.ds_host_laws.proofs.LockCauses.{Contains-head, wanted_by}
+use Rattle.ds_host_laws.proofs.LockPasses.{head-same}
 use Rattle.ds_host_laws.proofs.LockSights.{slot-spelled}
 use Rattle.ds_host_laws.proofs.Locks.{ended-by, exchanges-are, is-wanted, notes-same}
 use Rattle.ds_host_laws.specs.Locks.{IsTaking, MayBeBroken}
-
-first-same : {X : Type 0} (xs ys : List X) (x y : X) → x ∷ xs ≡ y ∷ ys → x ≡ y
-first-same xs ys x y same = cc
 
 apart-test : (a b : ℕ) → b ≢ a → (a == b) ≡ false
 apart-test a b differs = grind (arith, nat_tests)
@@ -137,7 +134,7 @@ module _ (setting : Setting) (d : Digest) (own : Own) (run : LockValue) (xs ys :
       → locks.IsLost wanted (notes_after run response now d.notes) now pass h slot s → MayBeBroken setting after now slot s
   by-loss slot s pass rest h parts by' (locks.Stale newest live stale) =
       let read = read_of (slot_sector setting.geom slot) (slot_image slot s) now in
-      let is : x ≡ read = first-same d.exchanges (newest.earlier ++ rest) x read
+      let is : x ≡ read = head-same d.exchanges (newest.earlier ++ rest) x read
       (parts ∙ ap (λ (l : List Exchange). l ++ rest) newest.newest) in
       broken-stale setting own run.wanted.object (is-wanted setting d own run xs ys taking) after now slot s pass rest parts d.notes
       (slot-noted slot (slot_image slot s) newest.within by'.other is) newest live

@@ -1,5 +1,6 @@
 -- How the taking of a lock begins in a call, goes on, and is taken up after a break.
-use Rattle.std.proofs.Common.{◌≡◌, ◌≢◌, ℕ, ◌+◌, ◌<◌, ◌≤◌, Bool, true, false, List, [], ◌∷◌, ◌++◌, length, Option, Some, None, refl, sym, ap, subst, ◌∙◌, append_assoc}
+use Rattle.std.proofs.Common.{◌≡◌, ◌≢◌, ℕ, Bool, true, false, List, [], ◌∷◌, ◌++◌}
+use Rattle.std.proofs.Common.{length, Some, None, refl, sym, ap, subst, ◌∙◌, append_assoc}
 use Rattle.ds_base.specs.Device.{Fits}
 use Rattle.ds_base.specs.Exchanges.{Exchange}
 use Rattle.ds_base.specs.declared.commands.Command.{Command}
@@ -14,12 +15,10 @@ use Rattle.ds_conduct.specs.Conducts.{after}
 use Rattle.ds_conduct.specs.Digests.{Digest, Own, is_some, noted, own_after, own_missed, own_swapped}
 use Rattle.ds_conduct.specs.Headers.{owner_of}
 use Rattle.ds_conduct.specs.Settings.{Setting}
-use Rattle.ds_lock.specs.Locking.{HasNoMiss, IsAfterMiss, IsNoMiss, IsRaced, IsShown, Misses, header_image, lock_sector, read_of, taken_from}
+use Rattle.ds_lock.specs.Locking.{HasNoMiss, IsNoMiss, IsRaced, IsShown, Misses, header_image, lock_sector, read_of, taken_from}
 use Rattle.ds_lock.specs.Stages.{Agrees, Awaits, HasSeen, IsPass, IsWanted, Leads, LockValue, due}
 use Rattle.ds_lock.specs.declared.ends.LockEnd.TheVariants as ends
 use Rattle.ds_lock.specs.declared.how.How.TheVariants.{Raced}
-use Rattle.ds_lock.specs.declared.steps.Stage.{Stage}
-use Rattle.ds_lock.specs.declared.steps.Stage.TheVariants as stages
 use Rattle.ds_lock.specs.declared.steps.Wanted.{Wanted}
 use Rattle.ds_marks.specs.declared.header.Header.{Header}
 use Rattle.ds_marks.specs.declared.slot.Slot.{Slot}
@@ -56,7 +55,7 @@ module _ (w : Wanted) where
   begun-behind x xs earlier misses begun =
       let header : Exchange = read_of (lock_sector w.geom w.object) begun.sector begun.tick in
       let apart : x ≢ header = λ same. absurd (let c : Swap misses.at misses.verify misses.fresh ≡ Read (lock_sector w.geom w.object) =
-          sym (ap (λ (y : Exchange). y.command) misses.is) ∙ ap (λ (y : Exchange). y.command) same in cc) in
+      sym (ap (λ (y : Exchange). y.command) misses.is) ∙ ap (λ (y : Exchange). y.command) same in cc) in
       let behind = last-behind [] xs begun.later x header apart begun.parts in
       record { later = behind.0; sector = begun.sector; tick = begun.tick; parts = behind.1 }
 
@@ -149,17 +148,19 @@ module _ (setting : Setting) (own : Own) (object : ℕ) (is_wanted : IsWanted (w
       begun-more (wanted_by setting own object) (record { command = command; response = response; tick = now } ∷ []) xs
       (pass-begun (wanted_by setting own object) false xs pass h before shown begun)
 
-module _ (setting : Setting) (d : Digest) (own : Own) (run : LockValue) (xs ys : List Exchange) (taking : IsTaking setting d own run xs ys)
-    where
+module _ (setting : Setting) (d : Digest) (own : Own) (run : LockValue) (xs ys : List Exchange)
+    (taking : IsTaking setting d own run xs ys) where
   abbrev w : Wanted
   w = wanted_by setting own run.wanted.object
+
+  abbrev pub exchange : Command → Response → ℕ → Exchange
+  exchange command response now = record { command = command; response = response; tick = now }
 
   -- one exchange more
   pub goes-on : (now : ℕ) (command : Command) → due run ≡ nexts.Send command → (response : Response) → Fits command response
       → response ≢ Fault → (run' : LockValue) → run'.wanted ≡ run.wanted
-      → Agrees run' (record { command = command; response = response; tick = now } ∷ xs)
-      → IsTaking setting (after setting d now command response None) own run' (record { command = command; response = response; tick = now }
-      ∷ xs) ys
+      → Agrees run' (exchange command response now ∷ xs)
+      → IsTaking setting (after setting d now command response None) own run' (exchange command response now ∷ xs) ys
   goes-on now command due response fits sound run' same agrees =
       let x : Exchange = record { command = command; response = response; tick = now } in
       let step = is-step setting d own run xs ys taking now command due in
@@ -171,8 +172,8 @@ module _ (setting : Setting) (d : Digest) (own : Own) (run : LockValue) (xs ys :
         owner = ap (λ (v : Wanted). v.own) same ∙ taking.owner;
         is_wanted = subst IsWanted (sym same) taking.is_wanted;
         host_size = taking.host_size;
-        holds = own-stays setting own run.wanted.object is d now taking.host_size taking.holds taking.unanswered taking.agrees.pass before.0
-            before.1 command response step fits sound;
+        holds = own-stays setting own run.wanted.object is d now taking.host_size taking.holds taking.unanswered
+            taking.agrees.pass before.0 before.1 command response step fits sound;
         unanswered = taking.unanswered;
         parts = ap (λ (l : List Exchange). x ∷ l) taking.parts;
         agrees = agrees;

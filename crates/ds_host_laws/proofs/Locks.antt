@@ -1,12 +1,12 @@
 -- The law of a run that takes a lock, as the conduct of the host whose call it serves.
-use Rattle.std.proofs.Common.{◌≡◌, ◌≢◌, ℕ, ◌+◌, ◌^◌, ◌<◌, Bool, true, false, List, [], ◌∷◌, ◌++◌, Option, Some, None, refl, sym, ap, subst, ◌∙◌, append_assoc}
+use Rattle.std.proofs.Common.{◌≡◌, ◌≢◌, ℕ, Bool, true, false, List, ◌∷◌, ◌++◌}
+use Rattle.std.proofs.Common.{Option, Some, None, refl, sym, ap, subst, ◌∙◌, append_assoc}
 use Rattle.ds_base.specs.Device.{Fits}
 use Rattle.ds_base.specs.Exchanges.{Exchange}
 use Rattle.ds_base.specs.declared.commands.Command.{Command}
-use Rattle.ds_base.specs.declared.commands.Command.TheVariants.{Read, Swap}
 use Rattle.ds_base.specs.declared.commands.Next.TheVariants as nexts
 use Rattle.ds_base.specs.declared.commands.Response.{Response}
-use Rattle.ds_base.specs.declared.commands.Response.TheVariants.{Got, Done, Miscompare, Fault}
+use Rattle.ds_base.specs.declared.commands.Response.TheVariants.{Fault}
 use Rattle.ds_base.specs.declared.sectors.Sector.{Sector}
 use Rattle.ds_conduct.specs.Answers.{TellsRead}
 use Rattle.ds_conduct.specs.Causes as causes
@@ -18,34 +18,26 @@ use Rattle.ds_conduct.specs.Settings.{Setting}
 use Rattle.ds_conduct.specs.declared.answers.HostAnswer.{HostAnswer}
 use Rattle.ds_conduct.specs.declared.answers.HostAnswer.TheVariants.{Busy, DeviceFault}
 use Rattle.ds_conduct.specs.declared.answers.Spot.TheVariants as spots
-use Rattle.ds_lock.specs.Locking as locks
 use Rattle.ds_lock.specs.Locking.{Cause, HasNoMiss, IsAfterMiss, IsRaced, read_of, slot_image, slot_sector}
-use Rattle.ds_lock.specs.Stages.{HasEnded, HasSeen, IsPass, IsWanted, Leads, LockValue, Told, due, due_at, notes_after, noted_at}
+use Rattle.ds_lock.specs.Stages.{HasEnded, HasSeen, IsPass, IsWanted, Leads, LockValue, due, due_at, notes_after, noted_at}
 use Rattle.ds_lock.specs.declared.ends.LockEnd.{LockEnd}
 use Rattle.ds_lock.specs.declared.ends.LockEnd.TheVariants as ends
 use Rattle.ds_lock.specs.declared.how.How.{How}
 use Rattle.ds_lock.specs.declared.how.How.TheVariants.{Held, Recovering, Raced}
-use Rattle.ds_lock.specs.declared.steps.Stage.{Stage}
 use Rattle.ds_lock.specs.declared.steps.Wanted.{Wanted}
 use Rattle.ds_marks.specs.declared.slot.Slot.{Slot}
 use Rattle.ds_watch.specs.Notes.{Note}
 use Rattle.ds_host_laws.proofs.LockCauses.{held-cause, raced-cause, recovering-cause, wanted_by}
-use Rattle.ds_host_laws.proofs.LockPasses.{has-missed, pass-front}
+use Rattle.ds_host_laws.proofs.LockPasses.{has-missed, head-same, pass-front, tail-same}
 use Rattle.ds_host_laws.proofs.LockSteps.{Step, fault-step, may-step, missed-step, none-step, notes-step, read-step, step}
 use Rattle.ds_host_laws.specs.Locks.{HasBegun, IsTaking}
-
-head-same : {X : Type 0} (xs ys : List X) (x y : X) → x ∷ xs ≡ y ∷ ys → x ≡ y
-head-same xs ys x y same = cc
-
-tail-same : {X : Type 0} (xs ys : List X) (x y : X) → x ∷ xs ≡ y ∷ ys → xs ≡ ys
-tail-same xs ys x y same = cc
 
 -- a pass that ends so
 abbrev pub EndsBy : Wanted → Bool → List Note → ℕ → List Exchange → LockEnd → Type 0
 EndsBy w missed notes now xs end = (pass : List Exchange) × IsPass w missed xs pass × Cause w notes now pass end
 
-module _ (setting : Setting) (d : Digest) (own : Own) (run : LockValue) (xs ys : List Exchange) (taking : IsTaking setting d own run xs ys)
-    where
+module _ (setting : Setting) (d : Digest) (own : Own) (run : LockValue) (xs ys : List Exchange)
+    (taking : IsTaking setting d own run xs ys) where
   abbrev pub w : Wanted
   w = wanted_by setting own run.wanted.object
 
@@ -116,7 +108,8 @@ module _ (setting : Setting) (d : Digest) (own : Own) (run : LockValue) (xs ys :
           notes_of o = digests.notes_after setting.geom o now command response d.notes
 
       -- what ended the run
-      pub ended-by : (run' : LockValue) (end : LockEnd) (notes : List Note) → run'.wanted ≡ run.wanted → HasEnded run' notes now (x ∷ xs) end
+      pub ended-by : (run' : LockValue) (end : LockEnd) (notes : List Note) → run'.wanted ≡ run.wanted
+          → HasEnded run' notes now (x ∷ xs) end
           → EndsBy w run'.missed notes now (x ∷ xs) end
       ended-by run' end notes same ended = subst (λ v. EndsBy v run'.missed notes now (x ∷ xs) end) (same ∙ wanted-is)
           (ended.pass, ended.is_pass, ended.cause)
