@@ -6,5 +6,6 @@ pub mod LockSteps
 pub mod Locks
 pub mod LockEnds
 pub mod LockGoes
+pub mod LockBreaks
 pub mod Digests
 pub mod RestsWhen

@@ -1,5 +1,6 @@
 -- The ends of a lock's taking, as causes of answers.
-use Rattle.std.proofs.Common.{◌≡◌, ◌≢◌, ℕ, ◌+◌, ◌^◌, ◌<◌, ◌≤◌, ◌⊎◌, inl, inr, List, [], ◌∷◌, ◌++◌, Option, Some, None, refl, sym, ap, subst, ◌∙◌, append_assoc, arith}
+use Rattle.std.proofs.Common.{◌≡◌, ◌≢◌, ℕ, ◌^◌, ◌≤◌, ◌⊎◌, inl, inr, List, []}
+use Rattle.std.proofs.Common.{◌∷◌, ◌++◌, Some, refl, sym, ap, subst, ◌∙◌, append_assoc, arith}
 use Rattle.std.specs.List.{Contains}
 use Rattle.std.proofs.lemmas.List.Elements.{Contains-append_right}
 use Rattle.std.proofs.lemmas.Option.{same_Some}
@@ -21,7 +22,6 @@ use Rattle.ds_lock.specs.declared.steps.Wanted.{Wanted}
 use Rattle.ds_marks.specs.declared.header.Header.{Header}
 use Rattle.ds_marks.specs.declared.header.Owner.{Owner}
 use Rattle.ds_marks.specs.declared.slot.Slot.{Slot}
-use Rattle.ds_marks.specs.declared.slot.SlotState.TheVariants.{Live, Breaking}
 use Rattle.ds_tree.specs.declared.calls.CallOf.{CallOf}
 use Rattle.ds_watch.specs.Notes.{Note}
 use Rattle.ds_host_laws.proofs.LockPasses.{last-behind}
@@ -113,7 +113,8 @@ module _ (setting : Setting) (own : Own) (object : ℕ) (is_wanted : IsWanted (w
     breaks-nothing slot by' (locks.Itself same) = inr same
 
     -- a slot that was read just now, after the header
-    owner-slot : (h : Header) (o : Owner) (s : Slot) (tick : ℕ) → (owned : locks.IsOwned w pass h o) → locks.IsSlotNewest w tick pass o.slot s
+    owner-slot : (h : Header) (o : Owner) (s : Slot) (tick : ℕ) → (owned : locks.IsOwned w pass h o)
+        → locks.IsSlotNewest w tick pass o.slot s
         → (named : causes.ReadsOwner setting.geom (pass ++ rest) object o)
         × causes.ReadsSlot setting.geom named.reads.read.later o.slot s
     owner-slot h o s tick owned newest =

@@ -1,5 +1,6 @@
 -- What the end of a lock's taking gives to the call that it serves.
-use Rattle.std.proofs.Common.{◌≡◌, ◌≢◌, ℕ, ◌+◌, ◌^◌, ◌<◌, ◌≤◌, ◌⊎◌, inl, inr, Bool, true, false, List, [], ◌∷◌, ◌++◌, Option, Some, None, refl, sym, ap, subst, ◌∙◌, append_assoc, length, arith}
+use Rattle.std.proofs.Common.{◌≡◌, ◌≢◌, ℕ, ◌^◌, ◌<◌, ◌⊎◌, inl, inr, List, [], ◌∷◌}
+use Rattle.std.proofs.Common.{◌++◌, Some, None, refl, sym, ap, subst, ◌∙◌, append_assoc, length, arith}
 use Rattle.std.proofs.lemmas.Option.{same_Some}
 use Rattle.ds_base.specs.Device.{Fits}
 use Rattle.ds_base.specs.Exchanges.{Exchange, seen_of}
@@ -13,7 +14,6 @@ use Rattle.ds_base.specs.declared.names.Key.{Key}
 use Rattle.ds_base.specs.declared.sectors.Sector.{Sector}
 use Rattle.ds_conduct.specs.Causes as causes
 use Rattle.ds_conduct.specs.Digests.{Digest, Own}
-use Rattle.ds_conduct.specs.Headers.{IsOf}
 use Rattle.ds_conduct.specs.Journals.{Found, Passed, Sees, Took}
 use Rattle.ds_conduct.specs.Settings.{Setting}
 use Rattle.ds_image.specs.Planning as planning
@@ -32,7 +32,7 @@ use Rattle.ds_marks.specs.declared.slot.Slot.{Slot}
 use Rattle.ds_tree.specs.declared.calls.CallOf.{CallOf}
 use Rattle.ds_watch.specs.Notes.{Note}
 use Rattle.ds_host_laws.proofs.LockCauses.{Contains-head, IsNotOwn, breakable-cause, damaged-cause, other-owner, wanted_by, worn-cause}
-use Rattle.ds_host_laws.proofs.LockPasses.{Anew, IsPassAfter, Longer, pass-after, pass-front, shown-same}
+use Rattle.ds_host_laws.proofs.LockPasses.{Anew, IsPassAfter, Longer, head-same, pass-after, pass-front, shown-same}
 use Rattle.ds_host_laws.proofs.LockSteps.{Looks, Step, Takes, taken-is}
 use Rattle.ds_host_laws.proofs.Locks.{due-at, ended-by, exchanges-are, has-seen, is-pass, is-step, is-wanted, rest, wanted-is}
 use Rattle.ds_host_laws.proofs.Spelled.{header-again}
@@ -57,9 +57,6 @@ only-shown (z ∷ u ∷ later) x y same = absurd cc
 none-last : {X : Type 0} (newer older : List X) (y : X) → [] ≡ newer ++ y ∷ older → ⊥
 none-last [] older y same = absurd cc
 none-last (z ∷ newer) older y same = absurd cc
-
-first-same : {X : Type 0} (xs ys : List X) (x y : X) → x ∷ xs ≡ y ∷ ys → x ≡ y
-first-same xs ys x y same = cc
 
 module _ (setting : Setting) (own : Own) (object : ℕ) (is_wanted : IsWanted (wanted_by setting own object)) where
   abbrev w : Wanted
@@ -214,8 +211,8 @@ module _ (setting : Setting) (d : Digest) (own : Own) (run : LockValue) (xs ys :
       subst (λ l. Sees setting.geom own plan first l (with_lock seen run.wanted.object))
       (sym (ap (λ (l : List Exchange). x ∷ l) taking.parts ∙ (ap (λ (l : List Exchange). l ++ ys) older.1
       ∙ append_assoc by_pass.0 older.0 ys)))
-      (got-sees-it setting own run.wanted.object (is-wanted setting d own run xs ys taking) taking.host_size plan first seen by_pass.0 (older.0
-      ++ ys) by_pass.2 (kept setting.geom own plan first older.0 ys seen sees))
+      (got-sees-it setting own run.wanted.object (is-wanted setting d own run xs ys taking) taking.host_size plan first seen
+      by_pass.0 (older.0 ++ ys) by_pass.2 (kept setting.geom own plan first older.0 ys seen sees))
 
   got-by : Fits command response → response ≢ Fault → (after : List Exchange) → IsPassAfter x taking.agrees.pass after
       → locks.HasLock wanted after ⊎ locks.TakesLock wanted after → (older : List Exchange) → x ∷ xs ≡ after ++ older → IsGot wanted x
@@ -227,7 +224,8 @@ module _ (setting : Setting) (d : Digest) (own : Own) (run : LockValue) (xs ys :
       (subst (λ l. IsShown wanted l has.header) e has.names.shown)
   got-by fits sound after (Anew e missed) (inl has) older parts =
       let there = subst (λ l. IsShown wanted l has.header) e has.names.shown in
-      absurd (none-shown there.later (read_of (lock_sector setting.geom run.wanted.object) (header_image has.header) there.tick) there.parts)
+      let header : Exchange = read_of (lock_sector setting.geom run.wanted.object) (header_image has.header) there.tick in
+      absurd (none-shown there.later header there.parts)
   got-by fits sound after is (inr takes) older parts =
       let h = takes.header in
       let swap : Exchange = record {
@@ -235,24 +233,24 @@ module _ (setting : Setting) (d : Digest) (own : Own) (run : LockValue) (xs ys :
         response = Done;
         tick = takes.tick;
       } in
-      let e : x ≡ swap = first-same xs (takes.earlier ++ older) x swap (parts ∙ ap (λ (l : List Exchange). l ++ older) takes.newest) in
+      let e : x ≡ swap = head-same xs (takes.earlier ++ older) x swap (parts ∙ ap (λ (l : List Exchange). l ++ older) takes.newest) in
       Taken h takes.shown.is_header takes.shown.same_object takes.room (record {
         command = ap (λ (y : Exchange). y.command) e;
         response = ap (λ (y : Exchange). y.response) e;
       })
 
   -- and how it was got
-  pub got-is : Fits command response → response ≢ Fault → Leads run' (Some ends.Got) notes now (x ∷ xs) → IsGot run.wanted x
-  got-is fits sound leads =
+  pub got-how : Fits command response → response ≢ Fault → Leads run' (Some ends.Got) notes now (x ∷ xs) → IsGot run.wanted x
+  got-how fits sound leads =
       let by_pass = ended-by setting d own run xs ys taking now command due response run' ends.Got notes same leads.0 in
       let older = pass-front wanted run'.missed (x ∷ xs) by_pass.0 by_pass.1 in
       subst (λ v. IsGot v x) (sym (wanted-is setting d own run xs ys taking))
       (got-by fits sound by_pass.0 (pass-is by_pass.0 by_pass.1) by_pass.2 older.0 older.1)
 
   -- what is damaged
-  pub got-damaged : (IsPlanned : CallOf Key → List ℕ → Type 0) (at : ℕ) → Leads run' (Some (ends.Damaged at)) notes now (x ∷ xs)
+  pub damaged-shown : (IsPlanned : CallOf Key → List ℕ → Type 0) (at : ℕ) → Leads run' (Some (ends.Damaged at)) notes now (x ∷ xs)
       → causes.IsDamaged setting own notes (x ∷ d.exchanges) IsPlanned at
-  got-damaged IsPlanned at leads =
+  damaged-shown IsPlanned at leads =
       let by_pass = ended-by setting d own run xs ys taking now command due response run' (ends.Damaged at) notes same leads.0 in
       let all = exchanges-are setting d own run xs ys taking now command due response run'.missed by_pass.0 by_pass.1 in
       subst (λ l. causes.IsDamaged setting own notes l IsPlanned at) (sym all.1)
@@ -260,9 +258,9 @@ module _ (setting : Setting) (d : Digest) (own : Own) (run : LockValue) (xs ys :
       by_pass.2)
 
   -- what is worn out
-  pub got-worn : (IsPlanned : CallOf Key → List ℕ → Type 0) → Leads run' (Some ends.WornOut) notes now (x ∷ xs)
+  pub worn-shown : (IsPlanned : CallOf Key → List ℕ → Type 0) → Leads run' (Some ends.WornOut) notes now (x ∷ xs)
       → causes.IsWornOut setting own (x ∷ d.exchanges) IsPlanned
-  got-worn IsPlanned leads =
+  worn-shown IsPlanned leads =
       let by_pass = ended-by setting d own run xs ys taking now command due response run' ends.WornOut notes same leads.0 in
       let all = exchanges-are setting d own run xs ys taking now command due response run'.missed by_pass.0 by_pass.1 in
       let is = is-wanted setting d own run xs ys taking in
@@ -273,9 +271,9 @@ module _ (setting : Setting) (d : Digest) (own : Own) (run : LockValue) (xs ys :
       by_pass.2)
 
   -- what is to be broken
-  pub got-breakable : (slot : ℕ) (s : Slot) → Leads run' (Some (ends.NeedsBreak slot s)) notes now (x ∷ xs)
+  pub break-needed : (slot : ℕ) (s : Slot) → Leads run' (Some (ends.NeedsBreak slot s)) notes now (x ∷ xs)
       → ReadsBreakable setting.geom own (x ∷ d.exchanges) slot s
-  got-breakable slot s leads =
+  break-needed slot s leads =
       let by_pass = ended-by setting d own run xs ys taking now command due response run' (ends.NeedsBreak slot s) notes same leads.0 in
       let all = exchanges-are setting d own run xs ys taking now command due response run'.missed by_pass.0 by_pass.1 in
       subst (λ l. ReadsBreakable setting.geom own l slot s) (sym all.1)

@@ -1,5 +1,6 @@
 -- How the taking of a lock begins in a call, goes on, and is taken up after a break.
-use Rattle.std.proofs.Common.{◌≡◌, ◌≢◌, ℕ, ◌+◌, ◌<◌, ◌≤◌, Bool, true, false, List, [], ◌∷◌, ◌++◌, length, Option, Some, None, refl, sym, ap, subst, ◌∙◌, append_assoc}
+use Rattle.std.proofs.Common.{◌≡◌, ◌≢◌, ℕ, Bool, true, false, List, [], ◌∷◌, ◌++◌}
+use Rattle.std.proofs.Common.{length, Some, None, refl, sym, ap, subst, ◌∙◌, append_assoc}
 use Rattle.ds_base.specs.Device.{Fits}
 use Rattle.ds_base.specs.Exchanges.{Exchange}
 use Rattle.ds_base.specs.declared.commands.Command.{Command}
@@ -14,12 +15,10 @@ use Rattle.ds_conduct.specs.Conducts.{after}
 use Rattle.ds_conduct.specs.Digests.{Digest, Own, is_some, noted, own_after, own_missed, own_swapped}
 use Rattle.ds_conduct.specs.Headers.{owner_of}
 use Rattle.ds_conduct.specs.Settings.{Setting}
-use Rattle.ds_lock.specs.Locking.{HasNoMiss, IsAfterMiss, IsNoMiss, IsRaced, IsShown, Misses, header_image, lock_sector, read_of, taken_from}
+use Rattle.ds_lock.specs.Locking.{HasNoMiss, IsNoMiss, IsRaced, IsShown, Misses, header_image, lock_sector, read_of, taken_from}
 use Rattle.ds_lock.specs.Stages.{Agrees, Awaits, HasSeen, IsPass, IsWanted, Leads, LockValue, due}
 use Rattle.ds_lock.specs.declared.ends.LockEnd.TheVariants as ends
 use Rattle.ds_lock.specs.declared.how.How.TheVariants.{Raced}
-use Rattle.ds_lock.specs.declared.steps.Stage.{Stage}
-use Rattle.ds_lock.specs.declared.steps.Stage.TheVariants as stages
 use Rattle.ds_lock.specs.declared.steps.Wanted.{Wanted}
 use Rattle.ds_marks.specs.declared.header.Header.{Header}
 use Rattle.ds_marks.specs.declared.slot.Slot.{Slot}
@@ -149,69 +148,71 @@ module _ (setting : Setting) (own : Own) (object : ℕ) (is_wanted : IsWanted (w
       begun-more (wanted_by setting own object) (record { command = command; response = response; tick = now } ∷ []) xs
       (pass-begun (wanted_by setting own object) false xs pass h before shown begun)
 
-module _ (setting : Setting) (d : Digest) (own : Own) (run : LockValue) (xs ys : List Exchange) (taking : IsTaking setting d own run xs ys)
-  where
-    abbrev w : Wanted
-    w = wanted_by setting own run.wanted.object
+module _ (setting : Setting) (d : Digest) (own : Own) (run : LockValue) (xs ys : List Exchange)
+    (taking : IsTaking setting d own run xs ys) where
+  abbrev w : Wanted
+  w = wanted_by setting own run.wanted.object
 
-    -- one exchange more
-    pub goes-on : (now : ℕ) (command : Command) → due run ≡ nexts.Send command → (response : Response) → Fits command response
-        → response ≢ Fault → (run' : LockValue) → run'.wanted ≡ run.wanted
-        → Agrees run' (record { command = command; response = response; tick = now } ∷ xs)
-        → IsTaking setting (after setting d now command response None) own run' (record { command = command; response = response; tick = now }
-        ∷ xs) ys
-    goes-on now command due response fits sound run' same agrees =
-        let x : Exchange = record { command = command; response = response; tick = now } in
-        let step = is-step setting d own run xs ys taking now command due in
-        let before = rest setting d own run xs ys taking in
-        let is = is-wanted setting d own run xs ys taking in
-        let wanted = wanted-is setting d own run xs ys taking in
-        record {
-          geom = ap (λ (v : Wanted). v.geom) same ∙ taking.geom;
-          owner = ap (λ (v : Wanted). v.own) same ∙ taking.owner;
-          is_wanted = subst IsWanted (sym same) taking.is_wanted;
-          host_size = taking.host_size;
-          holds = own-stays setting own run.wanted.object is d now taking.host_size taking.holds taking.unanswered taking.agrees.pass before.0
-              before.1 command response step fits sound;
-          unanswered = taking.unanswered;
-          parts = ap (λ (l : List Exchange). x ∷ l) taking.parts;
-          agrees = agrees;
-          begun = λ again. subst (λ v. HasBegun v (x ∷ xs)) (sym (same ∙ wanted))
-              (begun-step setting own run.wanted.object is d now taking.host_size taking.holds taking.unanswered taking.agrees.pass before.0
-              before.1 command response xs run.missed run'.missed agrees.pass step fits (is-pass setting d own run xs ys taking)
-              (λ missed. subst (λ v. HasBegun v xs) wanted (taking.begun missed))
-              (subst (λ v. IsPass v run'.missed (x ∷ xs) agrees.pass) (same ∙ wanted) agrees.is_pass) again);
-        }
+  abbrev pub exchange : Command → Response → ℕ → Exchange
+  exchange command response now = record { command = command; response = response; tick = now }
 
-    -- the run had begun with the header where a break is awaited
-    awaiting-begun : (slot : ℕ) (s : Slot) → Awaits run.stage slot s → HasBegun run.wanted xs
-    awaiting-begun slot s awaits =
-        let seen = subst (λ v. HasSeen run.wanted v taking.agrees.pass) awaits.1 taking.agrees.seen in
-        pass-begun run.wanted run.missed xs taking.agrees.pass awaits.0 taking.agrees.is_pass seen.0.names.shown taking.begun
-
-    module _ (slot : ℕ) (s : Slot) (awaits : Awaits run.stage slot s) (broke : List Exchange) (run' : LockValue)
-        (same : run'.wanted ≡ run.wanted) where
-      -- the exchanges of the break are added
-      pub resumed : (d' : Digest) → d'.own ≡ Some own → d'.answer ≡ None → d'.exchanges ≡ (broke ++ xs) ++ ys → Agrees run' (broke ++ xs)
-          → IsTaking setting d' own run' (broke ++ xs) ys
-      resumed d' holds unanswered parts agrees = record {
+  -- one exchange more
+  pub goes-on : (now : ℕ) (command : Command) → due run ≡ nexts.Send command → (response : Response) → Fits command response
+      → response ≢ Fault → (run' : LockValue) → run'.wanted ≡ run.wanted
+      → Agrees run' (exchange command response now ∷ xs)
+      → IsTaking setting (after setting d now command response None) own run' (exchange command response now ∷ xs) ys
+  goes-on now command due response fits sound run' same agrees =
+      let x : Exchange = record { command = command; response = response; tick = now } in
+      let step = is-step setting d own run xs ys taking now command due in
+      let before = rest setting d own run xs ys taking in
+      let is = is-wanted setting d own run xs ys taking in
+      let wanted = wanted-is setting d own run xs ys taking in
+      record {
         geom = ap (λ (v : Wanted). v.geom) same ∙ taking.geom;
         owner = ap (λ (v : Wanted). v.own) same ∙ taking.owner;
         is_wanted = subst IsWanted (sym same) taking.is_wanted;
         host_size = taking.host_size;
-        holds = holds;
-        unanswered = unanswered;
-        parts = parts;
+        holds = own-stays setting own run.wanted.object is d now taking.host_size taking.holds taking.unanswered
+            taking.agrees.pass before.0 before.1 command response step fits sound;
+        unanswered = taking.unanswered;
+        parts = ap (λ (l : List Exchange). x ∷ l) taking.parts;
         agrees = agrees;
-        begun = λ again. subst (λ v. HasBegun v (broke ++ xs)) (sym same) (begun-more run.wanted broke xs (awaiting-begun slot s awaits));
+        begun = λ again. subst (λ v. HasBegun v (x ∷ xs)) (sym (same ∙ wanted))
+            (begun-step setting own run.wanted.object is d now taking.host_size taking.holds taking.unanswered taking.agrees.pass before.0
+            before.1 command response xs run.missed run'.missed agrees.pass step fits (is-pass setting d own run xs ys taking)
+            (λ missed. subst (λ v. HasBegun v xs) wanted (taking.begun missed))
+            (subst (λ v. IsPass v run'.missed (x ∷ xs) agrees.pass) (same ∙ wanted) agrees.is_pass) again);
       }
 
-      -- and it may have been the second miss
-      pub resumed-raced : (notes : List Note) (now : ℕ) → Leads run' (Some (ends.Busy Raced)) notes now (broke ++ xs)
-          → IsLockRaced setting.geom ((broke ++ xs) ++ ys) run.wanted.object
-      resumed-raced notes now leads =
-          let wanted = wanted-is setting d own run xs ys taking in
-          let raced = subst (λ v. IsRaced v (broke ++ xs)) (same ∙ wanted) leads.0 in
-          let begun = subst (λ v. HasBegun v (broke ++ xs)) wanted (begun-more run.wanted broke xs (awaiting-begun slot s awaits)) in
-          raced-cause setting own run.wanted.object (is-wanted setting d own run xs ys taking) (broke ++ xs) ys raced
-          (begun-behind w raced.second raced.rest raced.pass raced.misses (subst (HasBegun w) raced.newest begun))
+  -- the run had begun with the header where a break is awaited
+  awaiting-begun : (slot : ℕ) (s : Slot) → Awaits run.stage slot s → HasBegun run.wanted xs
+  awaiting-begun slot s awaits =
+      let seen = subst (λ v. HasSeen run.wanted v taking.agrees.pass) awaits.1 taking.agrees.seen in
+      pass-begun run.wanted run.missed xs taking.agrees.pass awaits.0 taking.agrees.is_pass seen.0.names.shown taking.begun
+
+  module _ (slot : ℕ) (s : Slot) (awaits : Awaits run.stage slot s) (broke : List Exchange) (run' : LockValue)
+      (same : run'.wanted ≡ run.wanted) where
+    -- the exchanges of the break are added
+    pub resumed : (d' : Digest) → d'.own ≡ Some own → d'.answer ≡ None → d'.exchanges ≡ (broke ++ xs) ++ ys → Agrees run' (broke ++ xs)
+        → IsTaking setting d' own run' (broke ++ xs) ys
+    resumed d' holds unanswered parts agrees = record {
+      geom = ap (λ (v : Wanted). v.geom) same ∙ taking.geom;
+      owner = ap (λ (v : Wanted). v.own) same ∙ taking.owner;
+      is_wanted = subst IsWanted (sym same) taking.is_wanted;
+      host_size = taking.host_size;
+      holds = holds;
+      unanswered = unanswered;
+      parts = parts;
+      agrees = agrees;
+      begun = λ again. subst (λ v. HasBegun v (broke ++ xs)) (sym same) (begun-more run.wanted broke xs (awaiting-begun slot s awaits));
+    }
+
+    -- and it may have been the second miss
+    pub resumed-raced : (notes : List Note) (now : ℕ) → Leads run' (Some (ends.Busy Raced)) notes now (broke ++ xs)
+        → IsLockRaced setting.geom ((broke ++ xs) ++ ys) run.wanted.object
+    resumed-raced notes now leads =
+        let wanted = wanted-is setting d own run xs ys taking in
+        let raced = subst (λ v. IsRaced v (broke ++ xs)) (same ∙ wanted) leads.0 in
+        let begun = subst (λ v. HasBegun v (broke ++ xs)) wanted (begun-more run.wanted broke xs (awaiting-begun slot s awaits)) in
+        raced-cause setting own run.wanted.object (is-wanted setting d own run xs ys taking) (broke ++ xs) ys raced
+        (begun-behind w raced.second raced.rest raced.pass raced.misses (subst (HasBegun w) raced.newest begun))

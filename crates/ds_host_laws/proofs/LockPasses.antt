@@ -1,5 +1,5 @@
 -- The pass of a run that takes a lock: how it goes on with one more exchange.
-use Rattle.std.proofs.Common.{◌≡◌, ◌≢◌, ℕ, ◌⊎◌, inl, inr, Bool, true, false, List, [], ◌∷◌, ◌++◌, refl, sym, ap, subst, ◌∙◌}
+use Rattle.std.proofs.Common.{◌≡◌, ◌≢◌, ℕ, Bool, true, false, List, [], ◌∷◌, ◌++◌, refl, sym, ap, subst, ◌∙◌}
 use Rattle.std.proofs.lemmas.List.{append-nil}
 use Rattle.ds_base.specs.Exchanges.{Exchange}
 use Rattle.ds_base.specs.declared.commands.Response.{Response}
@@ -10,6 +10,12 @@ use Rattle.ds_lock.specs.Stages.{IsPass}
 use Rattle.ds_lock.specs.declared.steps.Wanted.{Wanted}
 use Rattle.ds_marks.specs.declared.header.Header.{Header}
 use Rattle.ds_marks.proofs.Headers.{header_same}
+
+pub head-same : {X : Type 0} (xs ys : List X) (x y : X) → x ∷ xs ≡ y ∷ ys → x ≡ y
+head-same xs ys x y same = cc
+
+pub tail-same : {X : Type 0} (xs ys : List X) (x y : X) → x ∷ xs ≡ y ∷ ys → xs ≡ ys
+tail-same xs ys x y same = cc
 
 -- the last elements of one list are one
 pub last-same : {X : Type 0} (ls ms : List X) (a b : X) → ls ++ a ∷ [] ≡ ms ++ b ∷ [] → a ≡ b
@@ -78,7 +84,8 @@ module _ (w : Wanted) (x : Exchange) (xs pass : List Exchange) where
   pass-missed true (y ∷ after) before is =
       let same : x ∷ xs ≡ y ∷ (after ++ is.first ∷ is.earlier) = is.parts in
       let first : y ≡ x = cc in
-      let rest : after ++ is.first ∷ is.earlier ≡ pass ++ before.first ∷ before.earlier = let e : xs ≡ pass ++ before.first ∷ before.earlier = before.parts in cc in
+      let behind : xs ≡ after ++ is.first ∷ is.earlier = tail-same xs (after ++ is.first ∷ is.earlier) x y same in
+      let rest : after ++ is.first ∷ is.earlier ≡ pass ++ before.first ∷ before.earlier = sym behind ∙ before.parts in
       let one : after ≡ pass = one-miss after pass is.earlier before.earlier is.first before.first rest is.none_since.1 before.none_since
       (missed-not w is.first is.earlier is.misses) (missed-not w before.first before.earlier before.misses) in
       Longer (cc) (subst (λ (z : Exchange). IsNoMiss z.response) first is.none_since.0)
@@ -109,6 +116,7 @@ shown-same w x pass h k one other =
     let at : ℕ = lock_sector w.geom w.object in
     let lists : (x ∷ one.later) ++ read_of at (header_image h) one.tick ∷ [] ≡ other.later ++ read_of at (header_image k) other.tick ∷ [] =
     ap (λ (l : List Exchange). x ∷ l) (sym one.parts) ∙ other.parts in
-    let reads = last-same (x ∷ one.later) other.later (read_of at (header_image h) one.tick) (read_of at (header_image k) other.tick) lists in
+    let reads = last-same (x ∷ one.later) other.later (read_of at (header_image h) one.tick)
+    (read_of at (header_image k) other.tick) lists in
     header_same h k one.is_header other.is_header
     (ap (λ (y : Exchange). (sector_given (header_image h) y.response).bytes) reads)

@@ -1,16 +1,15 @@
 -- What a pass shows of a header and of slots, as causes of answers say it.
-use Rattle.std.proofs.Common.{◌≡◌, ◌≢◌, ℕ, ◌^◌, ◌<◌, ◌≤◌, List, [], ◌∷◌, ◌++◌, Some, refl, sym, ap, subst, ◌∙◌, append_assoc, arith}
+use Rattle.std.proofs.Common.{◌≡◌, ℕ, ◌<◌, List, [], ◌∷◌, ◌++◌, Some, refl, sym, ap, ◌∙◌, append_assoc, arith}
 use Rattle.ds_base.specs.Exchanges.{Exchange}
 use Rattle.ds_base.specs.Geometry.{IsGeom}
 use Rattle.ds_conduct.specs.Causes.{ReadsHeader, ReadsOther, ReadsOwner, ReadsSlot}
 use Rattle.ds_conduct.specs.Digests.{Own}
-use Rattle.ds_conduct.specs.Exchanges.{GotOf, ReadAt}
-use Rattle.ds_lock.specs.Locking.{IsOwned, IsOwnedBy, IsShown, IsSlotNewest, header_image, lock_sector, read_of, slot_image, slot_sector}
+use Rattle.ds_conduct.specs.Exchanges.{ReadAt}
+use Rattle.ds_lock.specs.Locking.{IsOwned, IsOwnedBy, IsShown, header_image, lock_sector, read_of, slot_image, slot_sector}
 use Rattle.ds_lock.specs.declared.steps.Wanted.{Wanted}
 use Rattle.ds_lock.proofs.Order.{read-after}
-use Rattle.ds_lock.proofs.Shown.{few-slots, newest-read}
+use Rattle.ds_lock.proofs.Shown.{few-slots}
 use Rattle.ds_marks.specs.Header.{IsHeader}
-use Rattle.ds_marks.specs.HeaderIn.{header_in}
 use Rattle.ds_marks.specs.Slot.{IsSlot}
 use Rattle.ds_marks.specs.SlotIn.{slot_in}
 use Rattle.ds_marks.specs.declared.header.Header.{Header}

@@ -1,14 +1,13 @@
 -- What the taking of a lock sends keeps the guards of a host, and what is answered to it is right.
-use Rattle.std.proofs.Common.{◌≡◌, ◌≢◌, ℕ, ◌+◌, ◌^◌, ◌<◌, ◌≤◌, ◌⊎◌, inl, inr, Bool, true, false, cond, List, [], ◌∷◌, ◌++◌, length, Option, Some, None, refl, sym, ap, subst, ◌∙◌, append_assoc, arith}
+use Rattle.std.proofs.Common.{◌≡◌, ◌≢◌, ℕ, ◌^◌, ◌<◌, cond, List, [], ◌∷◌, ◌++◌, length}
+use Rattle.std.proofs.Common.{Option, Some, None, refl, sym, ap, subst, ◌∙◌, append_assoc, arith}
 use Rattle.std.specs.Prelude.{◌==◌}
-use Rattle.std.specs.List.{Contains}
-use Rattle.std.proofs.lemmas.Bool.{cases_eq, eq-eqb}
 use Rattle.std.proofs.lemmas.Bool.Decides.{nat_tests}
 use Rattle.std.proofs.lemmas.Option.{same_Some}
 use Rattle.ds_base.specs.Device.{Fits}
-use Rattle.ds_base.specs.Exchanges.{Exchange, IsLast, seen_of}
+use Rattle.ds_base.specs.Exchanges.{Exchange, seen_of}
 use Rattle.ds_base.specs.declared.commands.Command.{Command}
-use Rattle.ds_base.specs.declared.commands.Command.TheVariants.{Read, Write, Swap}
+use Rattle.ds_base.specs.declared.commands.Command.TheVariants.{Read, Swap}
 use Rattle.ds_base.specs.declared.commands.Next.{Next}
 use Rattle.ds_base.specs.declared.commands.Next.TheVariants as nexts
 use Rattle.ds_base.specs.declared.commands.Response.{Response}
@@ -24,23 +23,21 @@ use Rattle.ds_conduct.specs.declared.answers.Spot.TheVariants as spots
 use Rattle.ds_conduct.specs.Digests as digests
 use Rattle.ds_conduct.specs.Digests.{Digest, Own, noted}
 use Rattle.ds_conduct.specs.Guards.{Lock, Locks, MayRead, MaySend, SawOver}
-use Rattle.ds_conduct.specs.Headers.{owner_of}
 use Rattle.ds_conduct.specs.Settings.{Setting}
 use Rattle.ds_layout.proofs.SamePlace.{place_within}
-use Rattle.ds_layout.specs.Places.{total_of}
 use Rattle.ds_layout.specs.declared.places.Place.TheVariants as places
 use Rattle.ds_lock.proofs.Order.{slot-later}
 use Rattle.ds_lock.proofs.Shown.{few-slots, seen_of-append}
-use Rattle.ds_lock.specs.Locking.{IsLoose, IsShown, IsSlotShown, Over, Unowned, header_image, lock_sector, read_of, slot_image, slot_sector, taken_from}
-use Rattle.ds_lock.specs.Stages.{HasSeen, IsWanted, LockValue, due_at, noted_at, with_note}
-use Rattle.ds_lock.specs.declared.how.How.TheVariants.{Held, Recovering, Raced}
+use Rattle.ds_lock.specs.Locking.{IsLoose, IsShown, Over, Unowned, header_image}
+use Rattle.ds_lock.specs.Locking.{lock_sector, read_of, slot_image, slot_sector, taken_from}
+use Rattle.ds_lock.specs.Stages.{HasSeen, IsWanted, due_at, noted_at, with_note}
+use Rattle.ds_lock.specs.declared.how.How.TheVariants.{Raced}
 use Rattle.ds_lock.specs.declared.steps.Stage.{Stage}
 use Rattle.ds_lock.specs.declared.steps.Stage.TheVariants as stages
 use Rattle.ds_lock.specs.declared.steps.Wanted.{Wanted}
 use Rattle.ds_marks.specs.Header.{IsHeader}
 use Rattle.ds_marks.specs.declared.header.Header.{Header}
 use Rattle.ds_marks.specs.declared.header.Owner.{Owner}
-use Rattle.ds_marks.specs.declared.slot.Slot.{Slot}
 use Rattle.ds_watch.specs.Notes.{Note}
 use Rattle.ds_host_laws.proofs.LockCauses.{contains-last, wanted_by}
 use Rattle.ds_host_laws.proofs.LockSights.{slot-spelled}
@@ -50,6 +47,9 @@ abbrev command_of : Next → Command
 command_of (nexts.Send command) = command
 command_of nexts.Rest = Read 0
 command_of (nexts.Late now last) = Read 0
+
+read-swap : (at to : ℕ) (verify fresh : Sector) → Read at ≡ Swap to verify fresh → ⊥
+read-swap at to verify fresh same = absurd cc
 
 eq-comm : (a b : ℕ) → (a == b) ≡ (b == a)
 eq-comm a b = grind (arith, nat_tests)
@@ -71,7 +71,8 @@ module _ (setting : Setting) (own : Own) (object : ℕ) (is_wanted : IsWanted (w
       → ((sector : Sector) → noted_at w stage (Got sector) now notes ≡ with_note w slot sector now notes)
       → noted_at w stage Done now notes ≡ notes → ((offset : ℕ) → noted_at w stage (Miscompare offset) now notes ≡ notes)
       → noted_at w stage Fault now notes ≡ notes
-      → digests.notes_after setting.geom (Some own) now (Read (slot_sector setting.geom slot)) response notes ≡ noted_at w stage response now notes
+      → digests.notes_after setting.geom (Some own) now (Read (slot_sector setting.geom slot)) response notes
+      ≡ noted_at w stage response now notes
   read-notes stage slot now notes (Got sector) within got done missed faulted =
       ap (λ n. digests.noted_of (Some own) n now sector notes) (slot_number-of setting.geom slot within)
       ∙ (ap (λ b. cond b notes (record { slot = slot; image = sector; tick = now } ∷ notes)) (eq-comm own.slot slot) ∙ sym (got sector))
@@ -233,7 +234,7 @@ module _ (setting : Setting) (own : Own) (object : ℕ) (is_wanted : IsWanted (w
     pub read-step : (command : Command) (response : Response) (at : ℕ) (sector : Sector) (answer : Option HostAnswer) → Step command
         → command ≡ Read at → response ≡ Got sector → IsTold answer command response → Answers setting d now command response answer
     read-step command response at sector answer (Takes h e shown loose room) is got =
-        absurd (let apart : Read at ≡ Swap (lock_sector setting.geom object) (header_image h) (header_image (taken_from w.own h)) = sym is ∙ e in cc)
+        absurd (read-swap at (lock_sector setting.geom object) (header_image h) (header_image (taken_from w.own h)) (sym is ∙ e))
     read-step command response at sector answer (Looks at' e may) is got =
         subst (λ c. IsTold answer c response → Answers setting d now c response answer) (sym e)
         (subst (λ r. IsTold answer (Read at') r → Answers setting d now (Read at') r answer) (sym got)
@@ -249,7 +250,7 @@ module _ (setting : Setting) (own : Own) (object : ℕ) (is_wanted : IsWanted (w
         → IsLockRaced setting.geom (exchange command response ∷ d.exchanges) object
         → Answers setting d now command response (Some (Busy (spots.Object object) Raced))
     missed-step command response at offset verify fresh (Looks at' e may) is missed =
-        absurd (let apart : Read at' ≡ Swap at verify fresh = sym e ∙ is in cc)
+        absurd (read-swap at' at verify fresh (sym e ∙ is))
     missed-step command response at offset verify fresh (Takes h e shown loose room) is missed =
         let from = lock_sector setting.geom object in
         let to = header_image (taken_from w.own h) in

@@ -1,12 +1,14 @@
 -- A sector that spells a header or a slot spells it to each reader, whatever bytes its host has.
-use Rattle.std.proofs.Common.{◌≡◌, ℕ, zero, suc, ◌+◌, ◌-◌, ◌*◌, ◌/◌, ◌%◌, ◌^◌, ◌<◌, ◌≤◌, Bool, true, cond, ◌&&◌, List, [], ◌∷◌, ◌++◌, length, take, drop, replicate, Option, Some, None, refl, sym, ap, subst, ◌∙◌, append_assoc, arith}
+use Rattle.std.proofs.Common.{◌≡◌, ℕ, zero, suc, ◌+◌, ◌-◌, ◌*◌, ◌/◌, ◌%◌, ◌^◌, ◌<◌, Bool, true, cond, ◌&&◌, List, []}
+use Rattle.std.proofs.Common.{◌∷◌, ◌++◌, length, take, drop, replicate, Option, Some, None, refl, sym, ap, subst, ◌∙◌, append_assoc, arith}
 use Rattle.std.specs.Prelude.{◌==◌, nat_le, nat_lt}
 use Rattle.std.specs.Str.{bytes_eq}
 use Rattle.std.proofs.Math.Nat.{pow-suc}
 use Rattle.std.proofs.Math.Seq.{drop-append_seam, take-append_seam}
 use Rattle.std.proofs.lemmas.List.{drop-drop}
 use Rattle.std.proofs.lemmas.Slice.Eq.{bytes_eq-Decides}
-use Rattle.ds_bytes.specs.Fields.{Field, FieldFits, FieldsFit, Num, Nums, Raw, field_bytes, field_size, front, little, padded, spelled, zeros}
+use Rattle.ds_bytes.specs.Fields.{Field, FieldFits, FieldsFit, Num, Nums, Raw, field_bytes}
+use Rattle.ds_bytes.specs.Fields.{field_size, front, little, padded, spelled, zeros}
 use Rattle.ds_bytes.proofs.Fronts.{front-padded}
 use Rattle.ds_bytes.proofs.SameFields.{joined, length-field_bytes, length-spelled, spelled-joined}
 use Rattle.ds_marks.proofs.Deciding.{both, decides_count, decides_eq, decides_le, decides_lt}

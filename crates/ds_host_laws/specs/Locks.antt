@@ -1,15 +1,16 @@
 -- The taking of a lock as a part of a call: what holds while it goes on, and what its end shows.
 use Rattle.std.specs.Prelude.{◌≡◌, ◌≢◌, ℕ, ◌^◌, ◌<◌, true, List, [], ◌∷◌, ◌++◌, length, Some, None}
-use Rattle.ds_base.specs.Exchanges.{Exchange}
+use Rattle.ds_base.specs.Exchanges.{Exchange, IsLast, seen_of}
 use Rattle.ds_base.specs.declared.commands.Response.TheVariants.{Got}
 use Rattle.ds_base.specs.declared.geometry.Geom.{Geom}
 use Rattle.ds_base.specs.declared.sectors.Sector.{Sector}
 use Rattle.ds_conduct.specs.Causes.{ReadsSlot}
 use Rattle.ds_conduct.specs.Digests.{Digest, Own}
 use Rattle.ds_conduct.specs.Exchanges.{SwapOf}
+use Rattle.ds_conduct.specs.Guards.{MayBreak}
 use Rattle.ds_conduct.specs.Headers.{owner_of}
 use Rattle.ds_conduct.specs.Settings.{Setting}
-use Rattle.ds_lock.specs.Locking.{header_image, lock_sector, read_of, taken_from}
+use Rattle.ds_lock.specs.Locking.{header_image, lock_sector, read_of, slot_image, slot_sector, taken_from}
 use Rattle.ds_lock.specs.Stages.{Agrees, IsWanted, LockValue}
 use Rattle.ds_lock.specs.declared.steps.Wanted.{Wanted}
 use Rattle.ds_marks.specs.Header.{IsHeader}
@@ -55,3 +56,8 @@ pub record ReadsBreakable (g : Geom) (own : Own) (xs : List Exchange) (slot : �
   pub other : slot ≢ own.slot
   pub breakable : IsBreakable image.state
   pub room : image.generation < 2 ^ 62
+
+-- the call may break this slot, as it stood when it was shown last
+pub record MayBeBroken (setting : Setting) (d : Digest) (now slot : ℕ) (image : Slot) : Type 0 where
+  pub last : IsLast (seen_of d.exchanges) (slot_sector setting.geom slot) (slot_image slot image)
+  pub may : MayBreak setting d now last.newer slot (slot_image slot image) image.state

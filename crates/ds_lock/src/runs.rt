@@ -32,6 +32,7 @@ ghost use Rattle.ds_lock.specs.Stages.{
   with_note,
 };
 ghost use Rattle.ds_lock.specs.declared.steps.Stage.TheVariants as stages;
+ghost use Rattle.ds_lock.specs.declared.steps.Went.TheVariants as went;
 
 use crate::ends::LockEnd;
 use crate::how::How;
@@ -118,6 +119,7 @@ impl LockRun {
             → GoesBy self.now.wanted (notes_after self.now response.now now notes) now (record { command = command; response = response.now; tick = now }) pass result }
         ensures fits { FitsWent self.now.wanted result }
         ensures nearer { left_after result < left_at self.now.stage }
+        ensures fault { response.now ≡ Response.Fault → result ≡ went.Ended LockEnd.Faulted }
     {
         match (&self.stage, response) {
             (Stage::Header, Response::Got(sector)) => self.wanted.header_read(sector),
@@ -159,6 +161,7 @@ impl LockRun {
             → Agrees self.old xs
             → Leads self.new result (notes_after self.old response.now now notes) now (record { command = command; response = response.now; tick = now } ∷ xs) }
         ensures nearer { result ≡ None → left_of self.new < left_of self.old }
+        ensures fault { response.now ≡ Response.Fault → result ≡ Some LockEnd.Faulted }
         ensures whole { IsRun self.new }
     {
         match self.went(response, watch, now) {
