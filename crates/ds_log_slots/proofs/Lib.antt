@@ -1,0 +1,5 @@
+pub mod Lists
+pub mod Moves
+pub mod Steps
+pub mod Growing
+pub mod Changes
