@@ -4,3 +4,4 @@ pub mod Steps
 pub mod Growing
 pub mod Changes
 pub mod Slots
+pub mod NoneOwed
