@@ -3,3 +3,5 @@ pub mod Moves
 pub mod Steps
 pub mod Growing
 pub mod Changes
+pub mod Slots
+pub mod NoneOwed
