@@ -3,3 +3,4 @@ pub mod Moves
 pub mod Steps
 pub mod Growing
 pub mod Changes
+pub mod OkAnswers
