@@ -1,2 +1,4 @@
 pub mod Digests
 pub mod RestsWhen
+pub mod SlotImages
+pub mod Slots
