@@ -9,3 +9,5 @@ pub mod LockGoes
 pub mod LockBreaks
 pub mod Digests
 pub mod RestsWhen
+pub mod SlotImages
+pub mod Slots
