@@ -290,7 +290,7 @@ module _ (setting : Setting) (d : Digest) (now : ℕ) where
     where
       by_end : (end : RegEnd) → reg.Told after.geom after.host wants.Enter (shown (Read at) (Got s)) end
           → TellsRead setting d now None (noted setting.geom d now (Read at) (Got s)).notes (shown (Read at) (Got s)) (answer_of (Some end))
-      by_end (ends.Registered slot generation) told = 
+      by_end (ends.Registered slot generation) told =
           let clash = same-command _ _ _ _ told.newest in absurd (let f : ⊥ = cc in f)
       by_end ends.NoSlot told = none-shown setting.geom (shown (Read at) (Got s)) (λ slot within. subst (λ g. reg.IsPassed g
           (shown (Read at) (Got s)) slot) geom (told slot (subst (λ (g : Geom). slot < g.slots) (sym geom) within)))
@@ -309,5 +309,5 @@ module _ (setting : Setting) (d : Digest) (now : ℕ) where
       by_end (ends.Fenced offset) told = absurd told
       by_end (ends.Damaged at') told = bad-shown setting.geom (shown (Read at) (Got s)) at' (subst (λ g. reg.IsDamaged g
           (shown (Read at) (Got s)) at') geom told)
-      by_end ends.Faulted told = 
+      by_end ends.Faulted told =
           let clash = same-response _ _ _ _ told.parts in let failed = told.failed in absurd (let f : ⊥ = cc in f)
