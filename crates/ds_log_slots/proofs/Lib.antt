@@ -5,3 +5,4 @@ pub mod Growing
 pub mod Changes
 pub mod Slots
 pub mod NoneOwed
+pub mod OwedNames
