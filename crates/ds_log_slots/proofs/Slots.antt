@@ -119,10 +119,9 @@ module _ (g : Geom) (old new : List Sector) (now : ℕ) (d d' : Digest) (effects
       → (a : ℕ) (image : Sector) → a < g.slots → Contains (seen_of d'.exchanges) (2 + a, image)
       → phase_of (slot_in a image.bytes) ≤ phase_at new a
   Seen-mover (SameSeen same) before a image within has =
-      let b = before a image within (subst (λ l. Contains l (
-        2 + a,
-        image,
-      )) same has) in let more = phase-kept d old new a (effects a within) in omega arith
+      let b = before a image within (subst (λ l. Contains l (2 + a, image)) same has) in
+      let more = phase-kept d old new a (effects a within) in
+      omega arith
   Seen-mover (NoSeen none) before a image within has = absurd (Contains-none (2 + a, image)
       (subst (λ l. Contains l (2 + a, image)) none has))
   Seen-mover (OneSeen at s there is) before a image within has =
@@ -167,8 +166,8 @@ module _ (volume : Volume) (start : List Sector) where
                 own = λ o holds. let st = (h.each i).own o holds in
                     OwnStands-other volume.geom d s s' o (effects o.slot st.within)
                     (λ p is_p slots generations. apart_d i other p o is_p holds slots generations) st;
-                seen = λ a image within has. let was = (h.each i).seen a image within has in let more = phase-kept d s s' a
-                    (effects a within) in omega arith;
+                seen = λ a image within has. let was = (h.each i).seen a image within has in
+                    let more = phase-kept d s s' a (effects a within) in omega arith;
               })
             ]);
         apart = λ i j ne. elim (cases_eq t.event.host i) [
@@ -199,7 +198,6 @@ module _ (volume : Volume) (start : List Sector) where
     pub slots-hold : (n : ℕ) → n ≤ length turns → SlotsHold volume.geom start (take n turns)
     slots-hold zero h = SlotsHold-start
     slots-hold (suc n) h =
-        let e : (t : Turn) × (slice_get turns n ≡ Some t)
-        × (take (suc n) turns ≡ take n turns ++ t ∷ []) = take-next turns n (omega arith) in
-        subst (SlotsHold volume.geom start) (sym e.2) (SlotsHold-push (take n turns) e.0 (slots-hold n (omega arith))
-        (history.each n e.0 e.1))
+        let e = take-next turns n (omega arith) in
+        subst (SlotsHold volume.geom start) (sym e.2)
+        (SlotsHold-push (take n turns) e.0 (slots-hold n (omega arith)) (history.each n e.0 e.1))
