@@ -4,3 +4,5 @@ pub mod Steps
 pub mod Growing
 pub mod Changes
 pub mod OkAnswers
+pub mod Slots
+pub mod NoneOwed

@@ -1,6 +1,5 @@
 -- What each kind of Swap does to a slot: its phase never falls, and each Live image is a new one.
 use Rattle.std.proofs.Common.{◌≡◌, ℕ, ◌+◌, ◌<◌, ◌≤◌, inl, inr, List, sym, ◌∙◌, ap, subst, arith, Some}
-use Rattle.ds_base.specs.declared.geometry.Geom.{Geom}
 use Rattle.ds_base.specs.declared.sectors.Sector.{Sector}
 use Rattle.ds_marks.specs.Slot.{state_code}
 use Rattle.ds_marks.specs.declared.slot.Slot.{Slot}
