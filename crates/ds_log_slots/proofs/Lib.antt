@@ -6,3 +6,4 @@ pub mod Changes
 pub mod OkAnswers
 pub mod Slots
 pub mod NoneOwed
+pub mod Leases
