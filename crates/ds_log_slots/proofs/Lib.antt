@@ -7,3 +7,4 @@ pub mod Slots
 pub mod NoneOwed
 pub mod OkAnswers
 pub mod OwedNames
+pub mod Leases
