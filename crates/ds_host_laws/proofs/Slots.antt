@@ -1,6 +1,7 @@
 -- What a host sends and tells while it has a run for its slot: entering one, renewing the own one, and leaving it.
 use Rattle.std.proofs.Common.{◌≡◌, ◌≢◌, ℕ, zero, suc, ◌+◌, ◌*◌, ◌^◌, ◌<◌, ◌≤◌, Bool, true, false, cond, List, [], ◌∷◌, ◌++◌, length, replicate}
 use Rattle.std.proofs.Common.{Option, Some, None, refl, sym, ◌∙◌, ap, subst, arith}
+use Rattle.std.specs.Prelude.{⊤}
 use Rattle.std.specs.List.{Contains}
 use Rattle.ds_base.specs.Exchanges.{Exchange, seen_of}
 use Rattle.ds_base.specs.Geometry.{IsGeom}
@@ -78,6 +79,18 @@ pub record Steps (now : ℕ) (run after : RegValue) (command : Command) (respons
   pub takes : Takes run.geom run.call run.stage response (told_by result after.stage)
   pub leads : (xs : List Exchange) → Agrees run xs
       → Leads after result (record { command = command; response = response; tick = now } ∷ xs)
+
+-- the step enters no slot
+abbrev pub EntersNone : Option RegEnd → Type 0
+EntersNone (Some (ends.Registered slot generation)) = ⊥
+EntersNone result = ⊤
+
+-- how a run that is to enter a slot may end
+abbrev pub IsEnterEnd : RegEnd → Type 0
+IsEnterEnd ends.Beaten = ⊥
+IsEnterEnd ends.Left = ⊥
+IsEnterEnd (ends.Fenced offset) = ⊥
+IsEnterEnd end = ⊤
 
 -- how an end is told
 abbrev pub answer_of : Option RegEnd → Option HostAnswer
@@ -311,3 +324,252 @@ module _ (setting : Setting) (d : Digest) (now : ℕ) where
           (shown (Read at) (Got s)) at') geom told)
       by_end ends.Faulted told =
           let clash = same-response _ _ _ _ told.parts in let failed = told.failed in absurd (let f : ⊥ = cc in f)
+
+  -- a Fault before the answer
+  fault-tells : (response : Option HostAnswer) → response ≡ None → TellsFault response answers.DeviceFault (Some answers.DeviceFault)
+  fault-tells None none = refl
+  fault-tells (Some answer) none = absurd (cc)
+
+  read-answers : (slot : ℕ) (missed : Bool) (after : RegValue) (command : Command) (response : Response) (result : Option RegEnd)
+      → IsId setting.host → Registers setting d (run_at (stages.Looking slot missed))
+      → Steps now (run_at (stages.Looking slot missed)) after command response result
+      → Answers setting d now (Read (2 + slot)) response (answer_of result)
+  read-answers slot missed after command (Got s) result id registers steps =
+      let same : Read (2 + slot) ≡ command = (let due = steps.is_due in cc) in
+      let leads = steps.leads d.exchanges registers.agrees in
+      record {
+        may = record { unanswered = registers.unanswered; within = slot-within setting.geom slot registers.is_run.fits.0 };
+        tells = read-tells after (2 + slot) s d.own result registers.none steps.geom steps.wants
+            (subst (λ c. Leads after result (shown c (Got s))) (sym same) leads);
+      }
+  read-answers slot missed after command Done result id registers steps = absurd steps.takes
+  read-answers slot missed after command (Miscompare offset) result id registers steps = absurd steps.takes
+  read-answers slot missed after command Fault result id registers steps =
+      let ended : result ≡ Some ends.Faulted = told-end result after.stage ends.Faulted steps.takes in
+      subst (λ r. Answers setting d now (Read (2 + slot)) Fault (answer_of r)) (sym ended) (record {
+        may = record { unanswered = registers.unanswered; within = slot-within setting.geom slot registers.is_run.fits.0 };
+        tells = fault-tells d.answer registers.unanswered;
+      })
+
+  module _ (slot : ℕ) (image : Sector) (found : Slot) where
+    abbrev enter_swap : Command
+    enter_swap = Swap (2 + slot) image (image_sector slot (reg.entered_from setting.host found))
+
+    swap-answers : (missed : Bool) (after : RegValue) (command : Command) (response : Response) (result : Option RegEnd)
+        → IsId setting.host → Registers setting d (run_at (stages.Entering slot image found missed))
+        → Steps now (run_at (stages.Entering slot image found missed)) after command response result
+        → Answers setting d now enter_swap response (answer_of result)
+    swap-answers missed after command (Got s) result id registers steps = absurd steps.takes
+    swap-answers missed after command Done result id registers steps =
+        let ended : result ≡ Some (ends.Registered slot found.generation) =
+        told-end result after.stage (ends.Registered slot found.generation) steps.takes in
+        subst (λ r. Answers setting d now enter_swap Done (answer_of r)) (sym ended)
+        (record { may = Enter (enters id slot image found missed registers); tells = refl })
+    swap-answers false after command (Miscompare offset) result id registers steps =
+        let on : result ≡ None = told-on result after.stage (stages.Looking slot true) steps.takes in
+        subst (λ r. Answers setting d now enter_swap (Miscompare offset) (answer_of r)) (sym on)
+        (record { may = Enter (enters id slot image found false registers); tells = tt })
+    swap-answers true after command (Miscompare offset) result id registers steps =
+        let same : enter_swap ≡ command = (let due = steps.is_due in cc) in
+        let ended : result ≡ Some (ends.Raced slot) = told-end result after.stage (ends.Raced slot) steps.takes in
+        let leads = subst (λ r. Leads after r (shown command (Miscompare offset))) ended (steps.leads d.exchanges registers.agrees) in
+        let told : reg.Told setting.geom after.host wants.Enter (shown enter_swap (Miscompare offset)) (ends.Raced slot) =
+        subst (λ c. reg.Told setting.geom after.host wants.Enter (shown c (Miscompare offset)) (ends.Raced slot)) (sym same)
+        (subst (λ w. reg.Told setting.geom after.host w (shown command (Miscompare offset)) (ends.Raced slot)) steps.wants
+        (subst (λ g. reg.Told g after.host after.call (shown command (Miscompare offset)) (ends.Raced slot)) steps.geom leads.0)) in
+        subst (λ r. Answers setting d now enter_swap (Miscompare offset) (answer_of r)) (sym ended) (record {
+          may = Enter (enters id slot image found true registers);
+          tells = race-shown setting.geom (shown enter_swap (Miscompare offset)) slot registers.is_run.fits.0 told;
+        })
+    swap-answers missed after command Fault result id registers steps =
+        let ended : result ≡ Some ends.Faulted = told-end result after.stage ends.Faulted steps.takes in
+        subst (λ r. Answers setting d now enter_swap Fault (answer_of r)) (sym ended) (record {
+          may = Enter (enters id slot image found missed registers);
+          tells = fault-tells d.answer registers.unanswered;
+        })
+
+  answers-at : (stage : Stage) (after : RegValue) (command : Command) (response : Response) (result : Option RegEnd) → IsId setting.host
+      → Registers setting d (run_at stage) → Steps now (run_at stage) after command response result
+      → Answers setting d now command response (answer_of result)
+  answers-at (stages.Looking slot missed) after command response result id registers steps =
+      let same : Read (2 + slot) ≡ command = (let due = steps.is_due in cc) in
+      subst (λ c. Answers setting d now c response (answer_of result)) same
+      (read-answers slot missed after command response result id registers steps)
+  answers-at (stages.Entering slot image found missed) after command response result id registers steps =
+      let same : enter_swap slot image found ≡ command = (let due = steps.is_due in cc) in
+      subst (λ c. Answers setting d now c response (answer_of result)) same
+      (swap-answers slot image found missed after command response result id registers steps)
+  answers-at stages.Own after command response result id registers steps = absurd registers.is_run.fits
+  answers-at stages.Over after command response result id registers steps = absurd steps.takes
+
+  module _ (run after : RegValue) (command : Command) (response : Response) where
+    at-stage : (result : Option RegEnd) (registers : Registers setting d run) → Steps now run after command response result
+        → Registers setting d (run_at run.stage) × Steps now (run_at run.stage) after command response result
+    at-stage result registers steps =
+        let same = same-run run registers in
+        (subst (Registers setting d) same registers, subst (λ r. Steps now r after command response result) same steps)
+
+    -- what a step leads to is told so
+    pub registers-answers : (result : Option RegEnd) → IsId setting.host → Registers setting d run
+        → Steps now run after command response result → Answers setting d now command response (answer_of result)
+    registers-answers result id registers steps =
+        let is = at-stage result registers steps in answers-at run.stage after command response result id is.0 is.1
+
+  not-done : (stage : Stage) (after : RegValue) (command : Command) (response : Response) (result : Option RegEnd)
+      → Registers setting d (run_at stage) → Steps now (run_at stage) after command response result → EntersNone result
+      → response ≡ Done → ⊥
+  not-done (stages.Looking slot missed) after command (Got s) result registers steps on done = let f : ⊥ = cc in f
+  not-done (stages.Looking slot missed) after command Done result registers steps on done = steps.takes
+  not-done (stages.Looking slot missed) after command (Miscompare offset) result registers steps on done = steps.takes
+  not-done (stages.Looking slot missed) after command Fault result registers steps on done = let f : ⊥ = cc in f
+  not-done (stages.Entering slot image found missed) after command (Got s) result registers steps on done = steps.takes
+  not-done (stages.Entering slot image found missed) after command Done result registers steps on done =
+      subst EntersNone (told-end result after.stage (ends.Registered slot found.generation) steps.takes) on
+  not-done (stages.Entering slot image found missed) after command (Miscompare offset) result registers steps on done = let f : ⊥ = cc in f
+  not-done (stages.Entering slot image found missed) after command Fault result registers steps on done = let f : ⊥ = cc in f
+  not-done stages.Own after command response result registers steps on done = registers.is_run.fits
+  not-done stages.Over after command response result registers steps on done = steps.takes
+
+  none-missed : (slot : Option ℕ) → own_missed None slot ≡ None
+  none-missed None = refl
+  none-missed (Some a) = refl
+
+  none-stays : (b : Bool) (own : Option Own) (command : Command) (response : Response) → own ≡ None → (response ≡ Done → ⊥)
+      → own_after setting.geom own b now command response ≡ None
+  none-stays b (Some own) command response none undone = absurd (cc)
+  none-stays b None (Read at) (Got s) none undone = refl
+  none-stays b None (Read at) Done none undone = refl
+  none-stays b None (Read at) (Miscompare offset) none undone = refl
+  none-stays b None (Read at) Fault none undone = refl
+  none-stays b None (Write at fresh) response none undone = by_response response undone
+    where
+      by_response : (r : Response) → (r ≡ Done → ⊥) → own_after setting.geom None b now (Write at fresh) r ≡ None
+      by_response (Got s) not = refl
+      by_response Done not = refl
+      by_response (Miscompare offset) not = refl
+      by_response Fault not = refl
+  none-stays b None (Swap at verify fresh) (Got s) none undone = refl
+  none-stays b None (Swap at verify fresh) Done none undone = absurd (undone refl)
+  none-stays true None (Swap at verify fresh) (Miscompare offset) none undone = refl
+  none-stays false None (Swap at verify fresh) (Miscompare offset) none undone = none-missed (slot_number setting.geom at)
+  none-stays b None (Swap at verify fresh) Fault none undone = refl
+
+  nothing-more : (command : Command) (response : Response) → (response ≡ Done → ⊥) → HasDoneNothing d.exchanges
+      → HasDoneNothing (shown command response)
+  nothing-more command response undone nothing x (zero, within, is) done =
+      undone (ap (λ (z : Exchange). z.response) is ∙ done)
+  nothing-more command response undone nothing x (suc k, within, is) done = nothing x (k, omega (arith, within), is) done
+
+  module _ (run after : RegValue) (command : Command) (response : Response) where
+    undone-by : (result : Option RegEnd) → Registers setting d run → Steps now run after command response result → EntersNone result
+        → response ≡ Done → ⊥
+    undone-by result registers steps on = let is = at-stage run after command response result registers steps in
+        not-done run.stage after command response result is.0 is.1 on
+
+    -- a host that enters no slot has no generation
+    pub registers-none : (result : Option RegEnd) → Registers setting d run → Steps now run after command response result → EntersNone result
+        → (noted setting.geom d now command response).own ≡ None
+    registers-none result registers steps on =
+        none-stays (is_some d.answer) d.own command response registers.none (undone-by result registers steps on)
+
+    -- a run that goes on is at work on the call as before
+    pub registers-on : Registers setting d run → Steps now run after command response None
+        → Registers setting (noted setting.geom d now command response) after
+    registers-on registers steps = record {
+      is_run = steps.whole;
+      geom = steps.geom ∙ registers.geom;
+      host = steps.host ∙ registers.host;
+      wants = steps.wants ∙ registers.wants;
+      agrees = (steps.leads d.exchanges registers.agrees).0;
+      none = registers-none None registers steps tt;
+      call = registers.call;
+      unanswered = registers.unanswered;
+      nothing_done = nothing-more command response (undone-by None registers steps tt) registers.nothing_done;
+    }
+
+  -- the own slot when it was entered
+  abbrev pub entered_image : ℕ → Slot
+  entered_image generation =
+      record { state = Live; generation = generation; host = setting.host; stamp = 1; journal = Idle }
+
+  -- a host has the slot that it entered
+  pub record HasEntered (e : Digest) (command : Command) (slot generation : ℕ) : Type 0 where
+    pub within : slot < setting.geom.slots
+    pub is_slot : IsSlot (entered_image generation)
+    pub spelled : slot_in slot (slot_bytes slot (entered_image generation)) ≡ Some (entered_image generation)
+    pub turned : e ≡ went_on d (exchanged setting.geom d now command Done)
+        (Some
+        (record { slot = slot; generation = generation; image = image_sector slot (entered_image generation); last = now; commits = 0 }))
+        d.owed d.files d.notes
+
+  has-entered : (slot : ℕ) (image : Sector) (found : Slot) (missed : Bool) → IsId setting.host
+      → Registers setting d (run_at (stages.Entering slot image found missed))
+      → HasEntered (noted setting.geom d now (enter_swap slot image found) Done) (enter_swap slot image found) slot found.generation
+  has-entered slot image found missed id registers =
+      let is = is_slot-entered setting.host found id registers.is_run.fits.1 in
+      let within = registers.is_run.fits.0 in
+      let spelled = slot_in-encoded slot (entered_image found.generation) (few-slots setting.geom slot registers.is_run.is_geom within) is
+      id.below in
+      record {
+        within = within;
+        is_slot = is;
+        spelled = spelled;
+        turned = enter-done setting.geom d now slot within image (image_sector slot (entered_image found.generation))
+            (entered_image found.generation) registers.none spelled refl;
+      }
+
+  swap-enters : (slot : ℕ) (image : Sector) (found : Slot) (missed : Bool) (response : Response) (into generation : ℕ)
+      → IsId setting.host → Registers setting d (run_at (stages.Entering slot image found missed))
+      → Takes setting.geom wants.Enter (stages.Entering slot image found missed) response
+      (went.Ended (ends.Registered into generation))
+      → HasEntered (noted setting.geom d now (enter_swap slot image found) response) (enter_swap slot image found) into generation
+  swap-enters slot image found missed (Got s) into generation id registers takes = absurd takes
+  swap-enters slot image found missed Done into generation id registers takes =
+      let same : slot ≡ into = cc in
+      let of : found.generation ≡ generation = cc in
+      subst (λ n. HasEntered (noted setting.geom d now (enter_swap slot image found) Done) (enter_swap slot image found) into n) of
+      (subst (λ n. HasEntered (noted setting.geom d now (enter_swap slot image found) Done) (enter_swap slot image found) n
+      found.generation) same (has-entered slot image found missed id registers))
+  swap-enters slot image found false (Miscompare offset) into generation id registers takes = let f : ⊥ = cc in absurd f
+  swap-enters slot image found true (Miscompare offset) into generation id registers takes = let f : ⊥ = cc in absurd f
+  swap-enters slot image found missed Fault into generation id registers takes = let f : ⊥ = cc in absurd f
+
+  enters-at : (stage : Stage) (after : RegValue) (command : Command) (response : Response) (slot generation : ℕ) → IsId setting.host
+      → Registers setting d (run_at stage) → Steps now (run_at stage) after command response (Some (ends.Registered slot generation))
+      → HasEntered (noted setting.geom d now command response) command slot generation
+  enters-at (stages.Looking other missed) after command response slot generation id registers steps =
+      let same : Read (2 + other) ≡ command = (let due = steps.is_due in cc) in
+      let told : reg.Told after.geom after.host wants.Enter (shown command response) (ends.Registered slot generation) =
+      subst (λ w. reg.Told after.geom after.host w (shown command response) (ends.Registered slot generation)) steps.wants
+      (steps.leads d.exchanges registers.agrees).0 in
+      let clash = same-command _ _ _ _ told.newest in absurd (let f : ⊥ = cc in f)
+  enters-at (stages.Entering other image found missed) after command response slot generation id registers steps =
+      let same : enter_swap other image found ≡ command = (let due = steps.is_due in cc) in
+      subst (λ c. HasEntered (noted setting.geom d now c response) c slot generation) same
+      (swap-enters other image found missed response slot generation id registers steps.takes)
+  enters-at stages.Own after command response slot generation id registers steps = absurd registers.is_run.fits
+  enters-at stages.Over after command response slot generation id registers steps = absurd steps.takes
+
+  pub registers-enters : (run after : RegValue) (command : Command) (response : Response) (slot generation : ℕ) → IsId setting.host
+      → Registers setting d run → Steps now run after command response (Some (ends.Registered slot generation))
+      → HasEntered (noted setting.geom d now command response) command slot generation
+  registers-enters run after command response slot generation id registers steps =
+      let is = at-stage run after command response (Some (ends.Registered slot generation)) registers steps in
+      enters-at run.stage after command response slot generation id is.0 is.1
+
+  -- and ends in no other way than these
+  pub registers-ends : (run after : RegValue) (command : Command) (response : Response) (end : RegEnd)
+      → Registers setting d run → Steps now run after command response (Some end) → IsEnterEnd end
+  registers-ends run after command response end registers steps =
+      by_end end (subst (λ w. reg.Told after.geom after.host w (shown command response) end) (steps.wants ∙ registers.wants)
+      (steps.leads d.exchanges registers.agrees).0)
+    where
+      by_end : (end : RegEnd) → reg.Told after.geom after.host wants.Enter (shown command response) end → IsEnterEnd end
+      by_end (ends.Registered slot generation) told = tt
+      by_end ends.NoSlot told = tt
+      by_end (ends.Raced slot) told = tt
+      by_end ends.Beaten told = told
+      by_end ends.Left told = told
+      by_end (ends.Fenced offset) told = told
+      by_end (ends.Damaged at) told = tt
+      by_end ends.Faulted told = tt
