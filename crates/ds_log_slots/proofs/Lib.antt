@@ -7,3 +7,4 @@ pub mod OkAnswers
 pub mod Slots
 pub mod NoneOwed
 pub mod Leases
+pub mod Committing
