@@ -55,19 +55,19 @@ run-first slot image since notes (Begun note older slots images ticks before) = 
   same_image = images;
   since_then = ticks;
 }
-run-first slot image since notes (Again note older slots images run) = more-first slot image since note older
-    (run-first slot image since older run)
-run-first slot image since notes (Passed note older other run) = more-first slot image since note older
-    (run-first slot image since older run)
+run-first slot image since notes (Again note older slots images run) =
+    more-first slot image since note older (run-first slot image since older run)
+run-first slot image since notes (Passed note older other run) =
+    more-first slot image since note older (run-first slot image since older run)
 
 -- the notes of the mover
-NotesHold-change : (g : Geom) (old new : List Sector) (now now' : ℕ) (d d' : Digest) → now ≤ now' → ((a : ℕ) → a < g.slots
-    → rank_at old a ≤ rank_at new a)
+NotesHold-change : (g : Geom) (old new : List Sector) (now now' : ℕ) (d d' : Digest) → now ≤ now'
+    → ((a : ℕ) → a < g.slots → rank_at old a ≤ rank_at new a)
     → NoteChange now' old d d' → NotesHold g old now d → NotesHold g new now' d'
 NotesHold-change g old new now now' d d' later up (SameNotes same) h n has within =
     let r = h n (subst (λ l. Contains l n) same has) within in let u = up n.slot within in (omega (arith, r.0), omega (arith, r.1))
-NotesHold-change g old new now now' d d' later up (NoNotes none) h n has within = absurd (Contains-none n (subst
-    (λ l. Contains l n) none has))
+NotesHold-change g old new now now' d d' later up (NoNotes none) h n has within =
+    absurd (Contains-none n (subst (λ l. Contains l n) none has))
 NotesHold-change g old new now now' d d' later up (OneNote b x found other is) h n has within =
     elim (Contains-cases d.notes (record { slot = b; image = x; tick = now' }) n (subst (λ l. Contains l n) is has)) [
       | inl e ↦
@@ -81,12 +81,12 @@ NotesHold-change g old new now now' d d' later up (OneNote b x found other is) h
     ]
 
 -- the notes of host k change, and the holder doesn't
-LeaseHolds-noted : (old : List Sector) (now' : ℕ) (h k k' : Digest) → NoteChange now' old k k' → ((own : Own) → h.own ≡ Some own
-    → own.last ≤ now') → LeaseHolds h k → LeaseHolds h k'
-LeaseHolds-noted old now' h k k' (SameNotes same) last lease own n is has slots images = lease own n is (subst
-    (λ l. Contains l n) same has) slots images
-LeaseHolds-noted old now' h k k' (NoNotes none) last lease own n is has slots images = absurd (Contains-none n (subst
-    (λ l. Contains l n) none has))
+LeaseHolds-noted : (old : List Sector) (now' : ℕ) (h k k' : Digest) → NoteChange now' old k k'
+    → ((own : Own) → h.own ≡ Some own → own.last ≤ now') → LeaseHolds h k → LeaseHolds h k'
+LeaseHolds-noted old now' h k k' (SameNotes same) last lease own n is has slots images =
+    lease own n is (subst (λ l. Contains l n) same has) slots images
+LeaseHolds-noted old now' h k k' (NoNotes none) last lease own n is has slots images =
+    absurd (Contains-none n (subst (λ l. Contains l n) none has))
 LeaseHolds-noted old now' h k k' (OneNote b x found other e) last lease own n is has slots images =
     elim (Contains-cases k.notes (record { slot = b; image = x; tick = now' }) n (subst (λ l. Contains l n) e has)) [
       | inl here ↦ let ticks : now' ≡ n.tick = ap (λ (m : Note). m.tick) here in let l = last own is in omega arith
@@ -96,10 +96,10 @@ LeaseHolds-noted old now' h k k' (OneNote b x found other e) last lease own n is
 -- the holder's own image changes
 LeaseHolds-own : (g : Geom) (old new : List Sector) (now now' : ℕ) (h h' k : Digest) → OwnChange g now' old new h h'
     → NotesHold g old now k → LeaseHolds h k → LeaseHolds h' k
-LeaseHolds-own g old new now now' h h' k (SameOwn same untouched) notes lease own n is has slots images = lease own n (sym same
-    ∙ is) has slots images
-LeaseHolds-own g old new now now' h h' k (NoOwn none) notes lease own n is has slots images = absurd (let e : None
-    ≡ Some own = sym none ∙ is in cc)
+LeaseHolds-own g old new now now' h h' k (SameOwn same untouched) notes lease own n is has slots images =
+    lease own n (sym same ∙ is) has slots images
+LeaseHolds-own g old new now now' h h' k (NoOwn none) notes lease own n is has slots images =
+    absurd (let e : None ≡ Some own = sym none ∙ is in cc)
 LeaseHolds-own g old new now now' h h' k (FreshOwn o holds fresh) notes lease own n is has slots images =
     let same : o ≡ own = cc in
     let slots' : n.slot ≡ o.slot = slots ∙ sym (ap (λ (x : Own). x.slot) same) in
@@ -135,8 +135,8 @@ LastHolds-own g old new now now' h h' later (FreshOwn o holds fresh) stands last
     )
 
 -- another host's generation: where the mover broke it, 16 ticks have passed
-LastHolds-other : (g : Geom) (old new : List Sector) (now now' : ℕ) (d h : Digest) → now ≤ now' → ((a : ℕ) → a < g.slots
-    → SlotEffect d old new a) → ((own : Own) → h.own ≡ Some own → OwnStands g old own)
+LastHolds-other : (g : Geom) (old new : List Sector) (now now' : ℕ) (d h : Digest) → now ≤ now'
+    → ((a : ℕ) → a < g.slots → SlotEffect d old new a) → ((own : Own) → h.own ≡ Some own → OwnStands g old own)
     → Apart d h → NotesHold g old now d → LeaseHolds h d → LastHolds old now h → LastHolds new now' h
 LastHolds-other g old new now now' d h later effects stands apart notes lease last own is =
     let b = last own is in
