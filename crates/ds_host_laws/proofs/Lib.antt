@@ -11,3 +11,4 @@ pub mod Digests
 pub mod RestsWhen
 pub mod SlotImages
 pub mod Slots
+pub mod OwnSlots

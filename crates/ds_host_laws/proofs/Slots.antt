@@ -109,7 +109,7 @@ slot-within : (g : Geom) (slot : ℕ) → slot < g.slots → 2 + slot < total_of
 slot-within g slot within =
     let from : 2 + g.slots ≤ place_sector g (places.Block 0 0) = block-beyond g 0 0 in omega (arith, from, within)
 
-few-slots : (g : Geom) (slot : ℕ) → IsGeom g → slot < g.slots → slot < 256
+pub few-slots : (g : Geom) (slot : ℕ) → IsGeom g → slot < g.slots → slot < 256
 few-slots g slot is within = let most : g.slots ≤ 16 = (is Slots).1 in omega (arith, most, within)
 
 -- a slot that is entered, renewed or left is one
@@ -147,7 +147,7 @@ is_slot-left image is less = record {
   };
 }
 
-below-none : (n : ℕ) → AllBelow 256 (replicate n 0)
+pub below-none : (n : ℕ) → AllBelow 256 (replicate n 0)
 below-none zero i = omega arith
 below-none (suc n) zero = omega arith
 below-none (suc n) (suc i) = below-none n i
