@@ -8,3 +8,4 @@ pub mod NoneOwed
 pub mod OkAnswers
 pub mod OwedNames
 pub mod Leases
+pub mod Fenced
