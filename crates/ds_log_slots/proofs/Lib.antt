@@ -9,3 +9,4 @@ pub mod OkAnswers
 pub mod OwedNames
 pub mod Leases
 pub mod Fenced
+pub mod Broken
