@@ -9,3 +9,5 @@ pub mod OkAnswers
 pub mod OwedNames
 pub mod Leases
 pub mod Committing
+pub mod Fenced
+pub mod Broken
