@@ -1,5 +1,6 @@
 pub mod Digests
-pub mod RestsWhen
-pub mod SlotImages
-pub mod Slots
+pub mod Images
 pub mod OwnSlots
+pub mod RestsWhen
+pub mod Slots
+pub mod Tails
