@@ -8,7 +8,8 @@ pub mod LockEnds
 pub mod LockGoes
 pub mod LockBreaks
 pub mod Digests
-pub mod RestsWhen
-pub mod SlotImages
-pub mod Slots
+pub mod Images
 pub mod OwnSlots
+pub mod RestsWhen
+pub mod Slots
+pub mod Tails

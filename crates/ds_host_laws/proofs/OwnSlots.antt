@@ -1,21 +1,16 @@
 -- What a host sends and tells that renews its own slot, or leaves it, between two transactions.
-use Rattle.std.proofs.Common.{◌≡◌, ℕ, ◌+◌, ◌^◌, ◌<◌, ◌≤◌, List, [], Option, Some, None, refl, sym, ◌∙◌, ap, subst, arith}
-use Rattle.std.specs.Prelude.{⊤}
-use Rattle.ds_base.specs.Exchanges.{Exchange}
+use Rattle.std.proofs.Common.{◌≡◌, ℕ, ◌+◌, ◌^◌, ◌<◌, [], Option, Some, None, refl, sym, subst}
 use Rattle.ds_base.specs.Geometry.{IsGeom}
 use Rattle.ds_base.specs.declared.commands.Command.{Command}
 use Rattle.ds_base.specs.declared.commands.Command.TheVariants.{Swap}
 use Rattle.ds_base.specs.declared.commands.Next.TheVariants.{Send}
 use Rattle.ds_base.specs.declared.commands.Response.{Response}
 use Rattle.ds_base.specs.declared.commands.Response.TheVariants.{Got, Done, Miscompare, Fault}
-use Rattle.ds_base.specs.declared.geometry.Geom.{Geom}
 use Rattle.ds_base.specs.declared.sectors.Sector.{Sector}
 use Rattle.ds_bytes.specs.Fields.{AllBelow}
 use Rattle.ds_marks.specs.Slot.{IsSlot, slot_bytes}
 use Rattle.ds_marks.specs.SlotIn.{slot_in}
-use Rattle.ds_marks.specs.declared.slot.Journal.TheVariants.{Idle}
 use Rattle.ds_marks.specs.declared.slot.Slot.{Slot}
-use Rattle.ds_marks.specs.declared.slot.SlotState.TheVariants.{Free, Live}
 use Rattle.ds_reg.specs.Registering.{beaten_from, left_from}
 use Rattle.ds_reg.specs.Stages.{EndsOwn, FitsStage, IsOwnCall, IsOwnImage, IsRun, RegValue, Takes, due, image_sector, told_by}
 use Rattle.ds_reg.specs.declared.calls.RegCall.{RegCall}
@@ -33,9 +28,9 @@ use Rattle.ds_conduct.specs.Guards.{Beat, Beats, Leave, Leaves, MaySend, SwapsOw
 use Rattle.ds_conduct.specs.Settings.{Setting}
 use Rattle.ds_conduct.specs.declared.answers.HostAnswer.{HostAnswer}
 use Rattle.ds_conduct.specs.declared.answers.HostAnswer.TheVariants as answers
-use Rattle.ds_host_laws.proofs.Digests.{beat-done, drops, exchanged, leave-done, own-missed, renewed_own, went_on}
-use Rattle.ds_host_laws.proofs.SlotImages.{slot_in-encoded}
-use Rattle.ds_host_laws.proofs.Slots.{below-none, few-slots, is_slot-beaten, is_slot-left}
+use Rattle.ds_host_laws.proofs.Digests.{beat-done, drops, exchanged, leave-done, renewed_own, went_on}
+use Rattle.ds_host_laws.proofs.Images.{below-replicate, slot_in-encoded}
+use Rattle.ds_host_laws.proofs.Slots.{few-slots, is_slot-beaten, is_slot-left}
 
 -- before the answer a host holds this image, which is Live and idle, in its own slot
 pub record HoldsIdle (setting : Setting) (d : Digest) (own : Own) (image : Slot) : Type 0 where
@@ -65,12 +60,14 @@ end-is (wants.Beat slot image) (Got s) end own is = absurd is
 end-is (wants.Beat slot image) Done end own is = subst (λ e. IsOwnEnd (wants.Beat slot image) e Done) (sym (ended end ends.Beaten is)) refl
 end-is (wants.Beat slot image) (Miscompare offset) end own is =
     subst (λ e. IsOwnEnd (wants.Beat slot image) e (Miscompare offset)) (sym (ended end (ends.Fenced offset) is)) refl
-end-is (wants.Beat slot image) Fault end own is = subst (λ e. IsOwnEnd (wants.Beat slot image) e Fault) (sym (ended end ends.Faulted is)) refl
+end-is (wants.Beat slot image) Fault end own is =
+    subst (λ e. IsOwnEnd (wants.Beat slot image) e Fault) (sym (ended end ends.Faulted is)) refl
 end-is (wants.Leave slot image) (Got s) end own is = absurd is
 end-is (wants.Leave slot image) Done end own is = subst (λ e. IsOwnEnd (wants.Leave slot image) e Done) (sym (ended end ends.Left is)) refl
 end-is (wants.Leave slot image) (Miscompare offset) end own is =
     subst (λ e. IsOwnEnd (wants.Leave slot image) e (Miscompare offset)) (sym (ended end (ends.Fenced offset) is)) refl
-end-is (wants.Leave slot image) Fault end own is = subst (λ e. IsOwnEnd (wants.Leave slot image) e Fault) (sym (ended end ends.Faulted is)) refl
+end-is (wants.Leave slot image) Fault end own is =
+    subst (λ e. IsOwnEnd (wants.Leave slot image) e Fault) (sym (ended end ends.Faulted is)) refl
 
 goes-not-on : (call : RegCall) (response : Response) (stage : Stage) → EndsOwn call response (went.On stage) → ⊥
 goes-not-on call (Got s) stage is = is
@@ -199,7 +196,7 @@ module _ (setting : Setting) (d : Digest) (now : ℕ) (own : Own) (image : Slot)
   module _ (less : image.generation < 2 ^ 62) where
     pub left-spelled : slot_in own.slot (slot_bytes own.slot (left_from image)) ≡ Some (left_from image)
     left-spelled =
-        slot_in-encoded own.slot (left_from image) small (is_slot-left image held.is_own.is_slot less) (below-none 16)
+        slot_in-encoded own.slot (left_from image) small (is_slot-left image held.is_own.is_slot less) (below-replicate 16)
 
     abbrev leave_swap : Command
     leave_swap = Swap (2 + own.slot) old (image_sector own.slot (left_from image))

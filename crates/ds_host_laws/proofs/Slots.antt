@@ -1,13 +1,13 @@
 -- What a host sends and tells while it has a run for its slot: entering one, renewing the own one, and leaving it.
-use Rattle.std.proofs.Common.{◌≡◌, ◌≢◌, ℕ, zero, suc, ◌+◌, ◌*◌, ◌^◌, ◌<◌, ◌≤◌, Bool, true, false, cond, List, [], ◌∷◌, ◌++◌, length, replicate}
+use Rattle.std.proofs.Common.{◌≡◌, ℕ, zero, suc, ◌+◌, ◌^◌, ◌<◌, ◌≤◌, Bool, true, false, List, [], ◌∷◌, ◌++◌, length}
 use Rattle.std.proofs.Common.{Option, Some, None, refl, sym, ◌∙◌, ap, subst, arith}
 use Rattle.std.specs.Prelude.{⊤}
 use Rattle.std.specs.List.{Contains}
-use Rattle.ds_base.specs.Exchanges.{Exchange, seen_of}
+use Rattle.ds_base.specs.Exchanges.{Exchange}
 use Rattle.ds_base.specs.Geometry.{IsGeom}
 use Rattle.ds_base.specs.declared.commands.Command.{Command}
 use Rattle.ds_base.specs.declared.commands.Command.TheVariants.{Read, Write, Swap}
-use Rattle.ds_base.specs.declared.commands.Next.TheVariants.{Send, Rest}
+use Rattle.ds_base.specs.declared.commands.Next.TheVariants.{Send}
 use Rattle.ds_base.specs.declared.commands.Response.{Response}
 use Rattle.ds_base.specs.declared.commands.Response.TheVariants.{Got, Done, Miscompare, Fault}
 use Rattle.ds_base.specs.declared.geometry.Geom.{Geom}
@@ -21,11 +21,10 @@ use Rattle.ds_marks.specs.Slot.{IsOfState, IsSlot, slot_bytes}
 use Rattle.ds_marks.specs.SlotIn.{slot_in}
 use Rattle.ds_marks.specs.declared.slot.Journal.TheVariants.{Idle}
 use Rattle.ds_marks.specs.declared.slot.Slot.{Slot}
-use Rattle.ds_marks.specs.declared.slot.SlotState.TheVariants.{Free, Live}
+use Rattle.ds_marks.specs.declared.slot.SlotState.TheVariants.{Live}
 use Rattle.ds_reg.specs.Registering as reg
-use Rattle.ds_reg.specs.Stages.{Agrees, EndsOwn, FitsStage, IsCall, IsOwnImage, IsRun, Leads, Misses, RegValue, Takes, due, due_of_own}
-use Rattle.ds_reg.specs.Stages.{end_of, image_sector, told_by}
-use Rattle.ds_reg.specs.declared.calls.RegCall.{RegCall}
+use Rattle.ds_reg.specs.Stages.{Agrees, IsRun, Leads, RegValue, Takes, due}
+use Rattle.ds_reg.specs.Stages.{image_sector, told_by}
 use Rattle.ds_reg.specs.declared.calls.RegCall.TheVariants as wants
 use Rattle.ds_reg.specs.declared.calls.RegEnd.{RegEnd}
 use Rattle.ds_reg.specs.declared.calls.RegEnd.TheVariants as ends
@@ -33,20 +32,20 @@ use Rattle.ds_reg.specs.declared.steps.Stage.{Stage}
 use Rattle.ds_reg.specs.declared.steps.Stage.TheVariants as stages
 use Rattle.ds_reg.specs.declared.steps.Went.TheVariants as went
 use Rattle.ds_tree.specs.declared.calls.HostCallOf.TheVariants as calls
-use Rattle.ds_conduct.specs.Answers.{TellsBeat, TellsFault, TellsRead}
-use Rattle.ds_conduct.specs.Causes.{HasNoSlot, IsBadSlot, IsSlotRaced, IsTaken}
+use Rattle.ds_conduct.specs.Answers.{TellsFault, TellsRead}
+use Rattle.ds_conduct.specs.Causes.{HasNoSlot, IsBadSlot, IsSlotRaced}
 use Rattle.ds_conduct.specs.Conducts.{Answers}
-use Rattle.ds_conduct.specs.Digests.{Digest, Own, is_some, noted, own_after, own_missed}
+use Rattle.ds_conduct.specs.Digests.{Digest, Own, begun, is_some, noted, own_after, own_missed}
 use Rattle.ds_conduct.specs.Exchanges.{MissAt}
-use Rattle.ds_conduct.specs.Guards.{Beat, Beats, Enter, Enters, Leave, Leaves, MaySend, SwapsOwn, SwapsSlot}
+use Rattle.ds_conduct.specs.Guards.{Enter, Enters, MaySend}
 use Rattle.ds_conduct.specs.Marks.{slot_number}
 use Rattle.ds_conduct.specs.Settings.{Setting}
 use Rattle.ds_conduct.specs.declared.answers.HostAnswer.{HostAnswer}
 use Rattle.ds_conduct.specs.declared.answers.HostAnswer.TheVariants as answers
 use Rattle.ds_conduct.specs.declared.answers.Spot.TheVariants as spots
 use Rattle.ds_conduct.proofs.Places.{block-beyond}
-use Rattle.ds_host_laws.proofs.Digests.{beat-done, enter-done, exchanged, leave-done, went_on}
-use Rattle.ds_host_laws.proofs.SlotImages.{slot_in-encoded}
+use Rattle.ds_host_laws.proofs.Digests.{enter-done, exchanged, went_on}
+use Rattle.ds_host_laws.proofs.Images.{slot_in-encoded}
 
 -- the id of a host: 16 bytes
 pub record IsId (host : List ℕ) : Type 0 where
@@ -104,6 +103,21 @@ answer_of (Some (ends.Fenced offset)) = Some (answers.Fenced offset)
 answer_of (Some (ends.Damaged at)) = Some (answers.Damaged at)
 answer_of (Some ends.Faulted) = Some answers.DeviceFault
 
+-- a call for a slot begins with a run that has sent nothing
+pub registers-begun : (setting : Setting) (d : Digest) (run : RegValue) → IsRun run → run.geom ≡ setting.geom → run.host ≡ setting.host
+    → run.call ≡ wants.Enter → Agrees run [] → d.own ≡ None → Registers setting (begun d calls.Register) run
+registers-begun setting d run is_run geom host wants agrees none = record {
+  is_run = is_run;
+  geom = geom;
+  host = host;
+  wants = wants;
+  agrees = agrees;
+  none = none;
+  call = refl;
+  unanswered = refl;
+  nothing_done = λ x has done. (let f : ⊥ = omega (arith, has.1) in f);
+}
+
 -- each slot is a sector of the volume
 slot-within : (g : Geom) (slot : ℕ) → slot < g.slots → 2 + slot < total_of g
 slot-within g slot within =
@@ -146,11 +160,6 @@ is_slot-left image is less = record {
     is_of_journal = tt;
   };
 }
-
-pub below-none : (n : ℕ) → AllBelow 256 (replicate n 0)
-below-none zero i = omega arith
-below-none (suc n) zero = omega arith
-below-none (suc n) (suc i) = below-none n i
 
 same-newest : (x y : Exchange) (xs ys : List Exchange) → x ∷ xs ≡ y ∷ ys → x ≡ y
 same-newest x y xs ys is = cc
@@ -467,8 +476,8 @@ module _ (setting : Setting) (d : Digest) (now : ℕ) where
         not-done run.stage after command response result is.0 is.1 on
 
     -- a host that enters no slot has no generation
-    pub registers-none : (result : Option RegEnd) → Registers setting d run → Steps now run after command response result → EntersNone result
-        → (noted setting.geom d now command response).own ≡ None
+    pub registers-none : (result : Option RegEnd) → Registers setting d run → Steps now run after command response result
+        → EntersNone result → (noted setting.geom d now command response).own ≡ None
     registers-none result registers steps on =
         none-stays (is_some d.answer) d.own command response registers.none (undone-by result registers steps on)
 

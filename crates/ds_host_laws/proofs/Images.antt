@@ -1,17 +1,22 @@
--- The sector that a slot is encoded in spells that slot.
-use Rattle.std.proofs.Common.{◌≡◌, ℕ, zero, suc, ◌+◌, ◌-◌, ◌%◌, ◌/◌, ◌^◌, ◌<◌, ◌≤◌, ◌&&◌, true, inl, inr, List, [], ◌∷◌, ◌++◌, length}
+-- The sector that a slot or a header is encoded in spells it.
+use Rattle.std.proofs.Common.{◌≡◌, ℕ, zero, suc, ◌-◌, ◌/◌, ◌<◌, true, inl, inr, List, [], ◌∷◌, ◌++◌, length}
 use Rattle.std.proofs.Common.{replicate, Some, refl, sym, subst, arith}
-use Rattle.std.specs.Prelude.{codes, nat_lt, slice_index}
+use Rattle.std.specs.Prelude.{codes, nat_lt}
 use Rattle.std.specs.List.{list_all}
 use Rattle.std.proofs.lemmas.Bool.{and_parts, cases_lt}
 use Rattle.std.proofs.lemmas.Bool.Decides.{nat_tests}
 use Rattle.std.proofs.lemmas.List.{get_or_append_left, get_or-append_right}
-use Rattle.ds_bytes.specs.Fields.{AllBelow, Field, Nums, Num, Raw, field_bytes, little, padded, sector_of_fields, spelled, spelled_after, zeros}
+use Rattle.ds_bytes.specs.Fields.{AllBelow, Field, field_bytes, little, padded, spelled, spelled_after, zeros}
 use Rattle.ds_bytes.proofs.Fronts.{length-padded}
 use Rattle.ds_bytes.proofs.SameFields.{length-spelled}
 use Rattle.ds_marks.specs.Slot.{IsSlot, slot_bytes, slot_fields}
 use Rattle.ds_marks.specs.SlotIn.{slot_in}
 use Rattle.ds_marks.specs.declared.slot.Slot.{Slot}
+use Rattle.ds_marks.specs.Header.{IsHeader, header_bytes, header_fields, written_owner}
+use Rattle.ds_marks.specs.HeaderIn.{header_in}
+use Rattle.ds_marks.specs.declared.header.Header.{Header}
+use Rattle.ds_marks.proofs.HeaderIn.{header_in-IsDecoded}
+use Rattle.ds_marks.proofs.Headers.{header_fields_fit}
 use Rattle.ds_marks.proofs.SlotIn.{slot_in-IsDecoded}
 use Rattle.ds_marks.proofs.Slots.{slot_fields_fit}
 
@@ -27,11 +32,14 @@ below-little zero x i = omega arith
 below-little (suc n) x zero = omega arith
 below-little (suc n) x (suc i) = below-little n (x / 256) i
 
+pub below-replicate : (n : ℕ) → AllBelow 256 (replicate n 0)
+below-replicate zero i = omega arith
+below-replicate (suc n) zero = omega arith
+below-replicate (suc n) (suc i) = below-replicate n i
+
 below-zeros : (n : ℕ) → AllBelow 256 (zeros n)
 unfolding zeros
-below-zeros zero i = omega arith
-below-zeros (suc n) zero = omega arith
-below-zeros (suc n) (suc i) = below-zeros n i
+below-zeros n = below-replicate n
 
 below-tested : (xs : List ℕ) → list_all (λ x. nat_lt x 256) xs ≡ true → AllBelow 256 xs
 below-tested [] test i = omega arith
@@ -82,3 +90,29 @@ module _ (number : ℕ) (s : Slot) (small : number < 256) (is_slot : IsSlot s) (
 
   pub slot_in-encoded : slot_in number (slot_bytes number s) ≡ Some s
   slot_in-encoded = (slot_in-IsDecoded number (slot_bytes number s) small length-slot below-slot s).1 (is_slot, refl)
+
+module _ (h : Header) (is_header : IsHeader h) (host : AllBelow 256 (written_owner h.owner).host) where
+  pub below-header : AllBelow 256 (header_bytes h)
+  unfolding header_bytes
+  below-header = below-padded (spelled (header_fields h)) (below-spelled [] (header_fields h) (below-tested [] refl) (
+    below-tested (codes "DSLK") refl,
+    (
+      below-little 1 _,
+      (
+        below-little 1 _,
+        (
+          below-zeros 2,
+          (below-little 4 _, (below-zeros 4, (below-little 8 _, (below-little 8 _, (host, tt))))),
+        ),
+      ),
+    ),
+  ))
+
+  pub length-header : length (header_bytes h) ≡ 512
+  unfolding header_bytes
+  length-header =
+      let size = length-spelled (header_fields h) (header_fields_fit h is_header) in
+      length-padded (spelled (header_fields h)) (omega (arith, size))
+
+  pub header_in-encoded : header_in (header_bytes h) ≡ Some h
+  header_in-encoded = (header_in-IsDecoded (header_bytes h) length-header below-header h).1 (is_header, refl)
